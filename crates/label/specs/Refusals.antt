@@ -1,0 +1,46 @@
+-- Each refusal's number, and the calls that may give it.
+use mathlib.Core.Bool.{Bool, true, false}
+use Prim.Native.Nat.{ℕ}
+use Rattle.label.specs.declared.refusal.Refusal.{Refusal}
+use Rattle.label.specs.declared.refusal.Refusal.the-variants.{NoText, TextTooLong, ControlByte, SilentClass, PartLeavesText, SharedPosition, ClassAlreadyIn, LoneDescriptor, FourTagsIn, LabelDoesNotFit, OtherText, SmallBuffer, NoSuchFrame}
+
+-- the calls that can be refused
+pub data Call : Type 0 where
+  opening : Call
+  tagging : Call
+  writing : Call
+
+abbrev pub when-opening : Call → Bool
+when-opening opening = true
+when-opening tagging = false
+when-opening writing = false
+
+abbrev pub when-tagging : Call → Bool
+when-tagging opening = false
+when-tagging tagging = true
+when-tagging writing = false
+
+abbrev pub when-writing : Call → Bool
+when-writing opening = false
+when-writing tagging = false
+when-writing writing = true
+
+-- a refusal carries nothing but its number; `calls` is the set of calls that may give it
+pub record Case : Type 0 where
+  pub number : ℕ
+  pub calls : Call → Bool
+
+abbrev pub case-of : Refusal → Case
+case-of NoText = record { number = 1; calls = when-opening }
+case-of TextTooLong = record { number = 2; calls = when-opening }
+case-of ControlByte = record { number = 3; calls = when-opening }
+case-of SilentClass = record { number = 4; calls = when-tagging }
+case-of PartLeavesText = record { number = 5; calls = when-tagging }
+case-of SharedPosition = record { number = 6; calls = when-tagging }
+case-of ClassAlreadyIn = record { number = 7; calls = when-tagging }
+case-of LoneDescriptor = record { number = 8; calls = when-tagging }
+case-of FourTagsIn = record { number = 9; calls = when-tagging }
+case-of LabelDoesNotFit = record { number = 12; calls = when-writing }
+case-of OtherText = record { number = 13; calls = when-writing }
+case-of SmallBuffer = record { number = 14; calls = when-writing }
+case-of NoSuchFrame = record { number = 15; calls = when-writing }

@@ -1,0 +1,48 @@
+-- Tags and the parts that they mark.
+use mathlib.Core.List.{List, [], _∷_}
+use mathlib.Core.Bool.{Bool, true, false, not, cond, _&&_, _||_}
+use Prim.Native.Nat.{ℕ, _+_}
+use lib.Dec.{eqb, leb, ltb}
+use lib.ListN.{take, drop}
+use Rattle.label.specs.declared.tag.Tag.{Tag}
+use Rattle.label.specs.Classes.{silent, descriptor}
+
+-- the part of a text that a tag marks: extent + 1 bytes from the start
+abbrev pub part : List ℕ → Tag → List ℕ
+part text t = take (t .extent + 1) (drop (t .start) text)
+
+-- the position behind a tag's part
+abbrev pub behind : Tag → ℕ
+behind t = t .start + t .extent + 1
+
+-- the part lies in a text of n bytes
+abbrev pub lies-in : ℕ → Tag → Bool
+lies-in n t = leb (behind t) n
+
+-- a part that is one space alone is a deletion
+abbrev pub deletion : List ℕ → Bool
+deletion [] = false
+deletion (b ∷ []) = eqb b 0x20
+deletion (b ∷ (x ∷ xs)) = false
+
+abbrev pub sounds : Tag → Bool
+sounds t = not (silent (t .class))
+
+-- silent tags left out
+abbrev pub sounding : List Tag → List Tag
+sounding [] = []
+sounding (t ∷ ts) = cond (sounds t) (t ∷ sounding ts) (sounding ts)
+
+-- the two parts share a position
+abbrev pub shares : Tag → Tag → Bool
+shares t u = ltb (u .start) (behind t) && ltb (t .start) (behind u)
+
+abbrev pub of-class : ℕ → Tag → Bool
+of-class c t = eqb c (t .class)
+
+abbrev pub is-descriptor : Tag → Bool
+is-descriptor t = descriptor (t .class)
+
+-- neither silent nor a Descriptor
+abbrev pub is-other : Tag → Bool
+is-other t = sounds t && not (descriptor (t .class))

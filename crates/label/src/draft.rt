@@ -1,0 +1,90 @@
+ghost use mathlib.Core.Path.{_≡_};
+ghost use mathlib.Core.Bool.{not};
+ghost use Prim.Native.Nat.{_≤_};
+ghost use Rattle.label.specs.Lists.{any};
+ghost use Rattle.label.specs.Drafts.{draft-outline, sealed-outline, control, opening-refusal, Opens, tagging-refusal, tagged, done, left, matches};
+use crate::refusal::Refusal;
+use crate::sealed::Draft;
+use crate::sealed::Sealed;
+use crate::tag::Tag;
+
+fn has_control(text: &[u8]) -> bool
+    ensures { λ r. ⌜ r ≡ any control (now (text .entry)) ⌝ }
+{
+    for b in text {
+        if *b < 0x20 {
+            return true;
+        }
+    }
+    false
+}
+
+// Why no draft is opened over a text, or nothing.
+fn why_not_open(text: &[u8]) -> Option<Refusal>
+    ensures { λ r. ⌜ r ≡ opening-refusal (now (text .entry)) ⌝ }
+{
+    if text.len() == 0 {
+        return Some(Refusal::NoText);
+    }
+    if text.len() > 128 {
+        return Some(Refusal::TextTooLong);
+    }
+    if has_control(text) {
+        return Some(Refusal::ControlByte);
+    }
+    None
+}
+
+impl Draft {
+    // Opens a draft over a text.
+    pub fn open(text: &[u8]) -> Result<Draft, Refusal>
+        ensures { λ r. ⌜ Opens (now (text .entry)) r ⌝ }
+    {
+        if let Some(refusal) = why_not_open(text) {
+            return Err(refusal);
+        }
+        let none = Tag { class: 0, start: 0, extent: 0 };
+        Ok(Draft { len: text.len(), count: 0, tags: [none; 4] })
+    }
+
+    // No more tags: the label can be sent.
+    pub fn seal(self) -> Sealed
+        ensures { λ r. ⌜ sealed-outline r ≡ draft-outline self ⌝ }
+    {
+        let Draft { len, count, tags } = self;
+        Sealed { len, count, tags }
+    }
+}
+
+impl Sealed {
+    // The label can be tagged again, and not be sent.
+    pub fn reopen(self) -> Draft
+        ensures { λ r. ⌜ draft-outline r ≡ sealed-outline self ⌝ }
+    {
+        let Sealed { len, count, tags } = self;
+        Draft { len, count, tags }
+    }
+
+    // The length of its text.
+    pub fn len(&self) -> usize
+        ensures value { λ r. ⌜ r ≡ sealed-outline (now (self .entry)) .len ⌝ }
+        ensures some { λ r. ⌜ 1 ≤ r ⌝ }
+        ensures short { λ r. ⌜ r ≤ 128 ⌝ }
+    {
+        self.len
+    }
+
+    // Its tags in the order in which they were added.
+    pub fn tags(&self) -> &[Tag]
+        ensures { λ r. ⌜ now r ≡ sealed-outline (now (self .entry)) .tags ⌝ }
+    {
+        &self.tags[0..self.count]
+    }
+
+    // The label may be sent over this text.
+    pub fn matches(&self, text: &[u8]) -> bool
+        ensures { λ r. ⌜ r ≡ matches (sealed-outline (now (self .entry))) (now (text .entry)) ⌝ }
+    {
+        text.len() == self.len && !has_control(text)
+    }
+}
