@@ -1,2 +1,3 @@
 pub mod Any
 pub mod Sounding
+pub mod Tagging

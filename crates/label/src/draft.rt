@@ -1,12 +1,24 @@
 ghost use mathlib.Core.Path.{_≡_};
 ghost use mathlib.Core.Bool.{not};
 ghost use Prim.Native.Nat.{_≤_};
+ghost use Rattle.std.specs.declared.option.Option.the-variants.{None};
 ghost use Rattle.label.specs.Lists.{any};
 ghost use Rattle.label.specs.Drafts.{draft-outline, sealed-outline, control, opening-refusal, Opens, tagging-refusal, tagged, done, left, matches};
+use crate::category::is_silent;
+use crate::question::IsDescriptor;
+use crate::question::IsOther;
+use crate::question::OfClass;
+use crate::question::SharesWith;
+use crate::question::any_tag;
+use crate::question::end_of;
 use crate::refusal::Refusal;
 use crate::sealed::Draft;
 use crate::sealed::Sealed;
 use crate::tag::Tag;
+use crate::question::IsDescriptorQuestion;
+use crate::question::IsOtherQuestion;
+use crate::question::OfClassQuestion;
+use crate::question::SharesWithQuestion;
 
 fn has_control(text: &[u8]) -> bool
     ensures { λ r. ⌜ r ≡ any control (now (text .entry)) ⌝ }
@@ -35,6 +47,31 @@ fn why_not_open(text: &[u8]) -> Option<Refusal>
     None
 }
 
+// Why a tag does not come into a draft, or nothing.
+fn why_not_tag(len: usize, tags: &[Tag], tag: Tag) -> Option<Refusal>
+    ensures { λ r. ⌜ r ≡ tagging-refusal (record { len = len; tags = now (tags .entry) }) tag ⌝ }
+{
+    if is_silent(tag.class) {
+        return Some(Refusal::SilentClass);
+    }
+    if end_of(tag) > len {
+        return Some(Refusal::PartLeavesText);
+    }
+    if any_tag(&SharesWith(tag), tags) {
+        return Some(Refusal::SharedPosition);
+    }
+    if any_tag(&OfClass(tag.class), tags) {
+        return Some(Refusal::ClassAlreadyIn);
+    }
+    if IsDescriptor.ask(tag) && !any_tag(&IsOther, tags) {
+        return Some(Refusal::LoneDescriptor);
+    }
+    if tags.len() >= 4 {
+        return Some(Refusal::FourTagsIn);
+    }
+    None
+}
+
 impl Draft {
     // Opens a draft over a text.
     pub fn open(text: &[u8]) -> Result<Draft, Refusal>
@@ -45,6 +82,33 @@ impl Draft {
         }
         let none = Tag { class: 0, start: 0, extent: 0 };
         Ok(Draft { len: text.len(), count: 0, tags: [none; 4] })
+    }
+
+    // Adds a tag behind the others.
+    pub fn tag(&mut self, tag: Tag) -> Result<(), Refusal>
+        ensures reply { λ r. ⌜ r ≡ done (tagging-refusal (draft-outline (now (self .entry))) tag) tt ⌝ }
+        ensures after { λ _. ⌜ draft-outline (now (self .exit)) ≡ left (tagging-refusal (draft-outline (now (self .entry))) tag) (tagged (draft-outline (now (self .entry))) tag) (draft-outline (now (self .entry))) ⌝ }
+    {
+        if let Some(refusal) = self.why_not(tag) {
+            return Err(refusal);
+        }
+        self.push(tag);
+        Ok(())
+    }
+
+    fn why_not(&self, tag: Tag) -> Option<Refusal>
+        ensures { λ r. ⌜ r ≡ tagging-refusal (draft-outline (now (self .entry))) tag ⌝ }
+    {
+        why_not_tag(self.len, &self.tags[0..self.count], tag)
+    }
+
+    fn push(&mut self, tag: Tag)
+        requires { ⌜ tagging-refusal (draft-outline (now self)) tag ≡ None ⌝ }
+        ensures { λ _. ⌜ draft-outline (now (self .exit)) ≡ tagged (draft-outline (now (self .entry))) tag ⌝ }
+    {
+        let at = self.count;
+        self.tags[at] = tag;
+        self.count = at + 1;
     }
 
     // No more tags: the label can be sent.

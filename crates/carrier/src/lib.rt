@@ -1,0 +1,3 @@
+// The carrier: one interface above which nobody knows which carrier it is.
+pub mod carrier;
+pub mod writing;
