@@ -1,7 +1,7 @@
 ghost use mathlib.Core.Path.{_≡_};
+ghost use lib.ListN.{take};
 ghost use Rattle.label.specs.Drafts.{sealed-outline};
-ghost use Rattle.carrier.specs.Writing.{refusal-by};
-use label::draft;
+ghost use Rattle.carrier.specs.Writing.{place, refusal-by};
 use label::refusal::Refusal;
 use label::sealed::Sealed;
 
@@ -32,4 +32,15 @@ pub fn why_not_write(
         return Some(Refusal::NoSuchFrame);
     }
     None
+}
+
+// The first 20 bytes of a frame, laid out in a place.
+pub fn in_place(frame: &[u8]) -> [u8; 21]
+    ensures { λ r. ⌜ r ≡ place (take 20 (now (frame .entry))) ⌝ }
+{
+    let n = if frame.len() < 20 { frame.len() } else { 20 };
+    let mut place = [0u8; 21];
+    place[0] = n as u8;
+    place[1..n + 1].copy_from_slice(&frame[0..n]);
+    place
 }

@@ -1,0 +1,3 @@
+// FM: labels as RadioText with RT+.
+pub mod carrier;
+mod frame;
