@@ -3,6 +3,7 @@ ghost use mathlib.Core.List.{_++_};
 ghost use lib.ListN.{length, drop};
 ghost use Rattle.label.specs.Drafts.{sealed-outline, done, left};
 ghost use Rattle.label.specs.Label.{label-of};
+ghost use Rattle.label.specs.Refusals.{Own, frame-writing};
 ghost use Rattle.carrier.specs.Writing.{Writing, place, write-refusal};
 use label::refusal::Refusal;
 use label::sealed::Sealed;
@@ -31,5 +32,6 @@ pub trait Carrier {
         space: &mut [u8],
     ) -> Result<(), Refusal>
         ensures reply { λ r. ⌜ r ≡ done (write-refusal writing (sealed-outline (now (label .entry))) (now (text .entry)) number (length (now (space .entry)))) tt ⌝ }
+        ensures own { λ r. ⌜ Own frame-writing r ⌝ }
         ensures space { λ _. ⌜ now (space .exit) ≡ left (write-refusal writing (sealed-outline (now (label .entry))) (now (text .entry)) number (length (now (space .entry)))) (place (writing .frame (label-of (sealed-outline (now (label .entry))) item (now (text .entry))) toggle service number) ++ drop 21 (now (space .entry))) (now (space .entry)) ⌝ };
 }

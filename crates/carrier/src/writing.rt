@@ -1,6 +1,7 @@
 ghost use mathlib.Core.Path.{_≡_};
 ghost use lib.ListN.{take};
 ghost use Rattle.label.specs.Drafts.{sealed-outline};
+ghost use Rattle.label.specs.Refusals.{OwnReason, frame-writing};
 ghost use Rattle.carrier.specs.Writing.{place, refusal-by};
 use label::refusal::Refusal;
 use label::sealed::Sealed;
@@ -17,7 +18,8 @@ pub fn why_not_write(
     number: usize,
     room: usize,
 ) -> Option<Refusal>
-    ensures { λ r. ⌜ r ≡ refusal-by fits count (sealed-outline (now (label .entry))) (now (text .entry)) number room ⌝ }
+    ensures own { λ r. ⌜ OwnReason frame-writing r ⌝ }
+    ensures value { λ r. ⌜ r ≡ refusal-by fits count (sealed-outline (now (label .entry))) (now (text .entry)) number room ⌝ }
 {
     if !fits {
         return Some(Refusal::LabelDoesNotFit);

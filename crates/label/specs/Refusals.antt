@@ -1,6 +1,11 @@
 -- Each refusal's number, and the calls that may give it.
+use mathlib.Core.Path.{_≡_}
 use mathlib.Core.Bool.{Bool, true, false}
 use Prim.Native.Nat.{ℕ}
+use Rattle.std.specs.declared.option.Option.{Option}
+use Rattle.std.specs.declared.option.Option.the-variants.{Some, None}
+use Rattle.std.specs.declared.result.Result.{Result}
+use Rattle.std.specs.declared.result.Result.the-variants.{Ok, Err}
 use Rattle.label.specs.declared.refusal.Refusal.{Refusal}
 use Rattle.label.specs.declared.refusal.Refusal.the-variants.{NoText, TextTooLong, ControlByte, SilentClass, PartLeavesText, SharedPosition, ClassAlreadyIn, LoneDescriptor, FourTagsIn, LabelDoesNotFit, OtherText, SmallBuffer, NoSuchFrame}
 
@@ -8,22 +13,22 @@ use Rattle.label.specs.declared.refusal.Refusal.the-variants.{NoText, TextTooL
 pub data Call : Type 0 where
   opening : Call
   tagging : Call
-  writing : Call
+  frame-writing : Call
 
 abbrev pub when-opening : Call → Bool
 when-opening opening = true
 when-opening tagging = false
-when-opening writing = false
+when-opening frame-writing = false
 
 abbrev pub when-tagging : Call → Bool
 when-tagging opening = false
 when-tagging tagging = true
-when-tagging writing = false
+when-tagging frame-writing = false
 
 abbrev pub when-writing : Call → Bool
 when-writing opening = false
 when-writing tagging = false
-when-writing writing = true
+when-writing frame-writing = true
 
 -- a refusal carries nothing but its number; `calls` is the set of calls that may give it
 pub record Case : Type 0 where
@@ -44,3 +49,12 @@ case-of LabelDoesNotFit = record { number = 12; calls = when-writing }
 case-of OtherText = record { number = 13; calls = when-writing }
 case-of SmallBuffer = record { number = 14; calls = when-writing }
 case-of NoSuchFrame = record { number = 15; calls = when-writing }
+
+-- a call is refused only by a refusal of its own
+abbrev pub Own : {X : Type 0} → Call → Result X Refusal → Type 0
+Own call (Ok x) = Unit {0}
+Own call (Err e) = case-of e .calls call ≡ true
+
+abbrev pub OwnReason : Call → Option Refusal → Type 0
+OwnReason call None = Unit {0}
+OwnReason call (Some e) = case-of e .calls call ≡ true

@@ -3,6 +3,7 @@ ghost use mathlib.Core.Bool.{not};
 ghost use Prim.Native.Nat.{_≤_};
 ghost use Rattle.std.specs.declared.option.Option.the-variants.{None};
 ghost use Rattle.label.specs.Lists.{any};
+ghost use Rattle.label.specs.Refusals.{Own, OwnReason, opening, tagging};
 ghost use Rattle.label.specs.Drafts.{draft-outline, sealed-outline, control, opening-refusal, Opens, tagging-refusal, tagged, done, left, matches};
 use crate::category::is_silent;
 use crate::question::IsDescriptor;
@@ -10,7 +11,6 @@ use crate::question::IsOther;
 use crate::question::OfClass;
 use crate::question::SharesWith;
 use crate::question::any_tag;
-use crate::question::end_of;
 use crate::refusal::Refusal;
 use crate::sealed::Draft;
 use crate::sealed::Sealed;
@@ -33,7 +33,8 @@ fn has_control(text: &[u8]) -> bool
 
 // Why no draft is opened over a text, or nothing.
 fn why_not_open(text: &[u8]) -> Option<Refusal>
-    ensures { λ r. ⌜ r ≡ opening-refusal (now (text .entry)) ⌝ }
+    ensures value { λ r. ⌜ r ≡ opening-refusal (now (text .entry)) ⌝ }
+    ensures own { λ r. ⌜ OwnReason opening r ⌝ }
 {
     if text.len() == 0 {
         return Some(Refusal::NoText);
@@ -49,12 +50,13 @@ fn why_not_open(text: &[u8]) -> Option<Refusal>
 
 // Why a tag does not come into a draft, or nothing.
 fn why_not_tag(len: usize, tags: &[Tag], tag: Tag) -> Option<Refusal>
-    ensures { λ r. ⌜ r ≡ tagging-refusal (record { len = len; tags = now (tags .entry) }) tag ⌝ }
+    ensures value { λ r. ⌜ r ≡ tagging-refusal (record { len = len; tags = now (tags .entry) }) tag ⌝ }
+    ensures own { λ r. ⌜ OwnReason tagging r ⌝ }
 {
     if is_silent(tag.class) {
         return Some(Refusal::SilentClass);
     }
-    if end_of(tag) > len {
+    if tag.end() > len {
         return Some(Refusal::PartLeavesText);
     }
     if any_tag(&SharesWith(tag), tags) {
@@ -75,7 +77,8 @@ fn why_not_tag(len: usize, tags: &[Tag], tag: Tag) -> Option<Refusal>
 impl Draft {
     // Opens a draft over a text.
     pub fn open(text: &[u8]) -> Result<Draft, Refusal>
-        ensures { λ r. ⌜ Opens (now (text .entry)) r ⌝ }
+        ensures opens { λ r. ⌜ Opens (now (text .entry)) r ⌝ }
+        ensures own { λ r. ⌜ Own opening r ⌝ }
     {
         if let Some(refusal) = why_not_open(text) {
             return Err(refusal);
@@ -87,6 +90,7 @@ impl Draft {
     // Adds a tag behind the others.
     pub fn tag(&mut self, tag: Tag) -> Result<(), Refusal>
         ensures reply { λ r. ⌜ r ≡ done (tagging-refusal (draft-outline (now (self .entry))) tag) tt ⌝ }
+        ensures own { λ r. ⌜ Own tagging r ⌝ }
         ensures after { λ _. ⌜ draft-outline (now (self .exit)) ≡ left (tagging-refusal (draft-outline (now (self .entry))) tag) (tagged (draft-outline (now (self .entry))) tag) (draft-outline (now (self .entry))) ⌝ }
     {
         if let Some(refusal) = self.why_not(tag) {
@@ -97,7 +101,8 @@ impl Draft {
     }
 
     fn why_not(&self, tag: Tag) -> Option<Refusal>
-        ensures { λ r. ⌜ r ≡ tagging-refusal (draft-outline (now (self .entry))) tag ⌝ }
+        ensures value { λ r. ⌜ r ≡ tagging-refusal (draft-outline (now (self .entry))) tag ⌝ }
+        ensures own { λ r. ⌜ OwnReason tagging r ⌝ }
     {
         why_not_tag(self.len, &self.tags[0..self.count], tag)
     }

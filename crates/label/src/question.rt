@@ -28,17 +28,10 @@ pub fn any_tag<Q: Question>(question: &Q, tags: &[Tag]) -> bool
     false
 }
 
-// The position behind a tag's part.
-pub fn end_of(tag: Tag) -> usize
-    ensures { λ r. ⌜ r ≡ behind tag ⌝ }
-{
-    tag.start as usize + tag.extent as usize + 1
-}
-
 fn do_share(t: Tag, u: Tag) -> bool
     ensures { λ r. ⌜ r ≡ shares t u ⌝ }
 {
-    (u.start as usize) < end_of(t) && (t.start as usize) < end_of(u)
+    (u.start as usize) < t.end() && (t.start as usize) < u.end()
 }
 
 fn is_of_class(class: u8, tag: Tag) -> bool
@@ -112,7 +105,7 @@ pub impl Question for Leaves as LeavesQuestion {
     ghost answer = { λ s t. sounds t && not (lies-in (s .0) t) };
 
     fn ask(&self, tag: Tag) -> bool {
-        !is_silent(tag.class) && end_of(tag) > self.0
+        !is_silent(tag.class) && tag.end() > self.0
     }
 }
 

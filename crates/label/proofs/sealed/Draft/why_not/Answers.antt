@@ -9,4 +9,4 @@ pub returns : need.returns
 returns c =
     let d = c .args .self .now in
     let z : d .count - 0 ≡ d .count = omega arith in
-    c .why-not-tag .ensures ∙ ap (λ k. tagging-refusal (record { len = d .len; tags = take k (d .tags) }) (c .args .tag)) z
+    record { value = c .why-not-tag .ensures .value ∙ ap (λ k. tagging-refusal (record { len = d .len; tags = take k (d .tags) }) (c .args .tag)) z; own = c .why-not-tag .ensures .own }
