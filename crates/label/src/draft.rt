@@ -104,7 +104,8 @@ impl Draft {
         ensures value { λ r. ⌜ r ≡ tagging-refusal (draft-outline (now (self .entry))) tag ⌝ }
         ensures own { λ r. ⌜ OwnReason tagging r ⌝ }
     {
-        why_not_tag(self.len, &self.tags[0..self.count], tag)
+        let held = self.count;
+        why_not_tag(self.len, &self.tags[0..held], tag)
     }
 
     fn push(&mut self, tag: Tag)
@@ -140,7 +141,8 @@ impl Sealed {
         ensures some { λ r. ⌜ 1 ≤ r ⌝ }
         ensures short { λ r. ⌜ r ≤ 128 ⌝ }
     {
-        self.len
+        let Sealed { len, .. } = self;
+        *len
     }
 
     // Its tags in the order in which they were added.
