@@ -19,6 +19,7 @@ use Rattle.label.specs.Label.{Outline}
 use Rattle.label.specs.Tags.{behind, lies-in, sounds, sounding, shares, of-class, is-descriptor, is-other}
 use Rattle.label.specs.Lawful.{apart, all-apart, accompanied, lawful-sounding, lawful, sealable}
 use Rattle.label.specs.Drafts.{tagging-refusal}
+use Rattle.label.proofs.Sounding.{sounding-all}
 
 pub any-push : {X : Type 0} (p : X → Bool) (xs : List X) (x : X) → any p (xs ++ (x ∷ [])) ≡ (any p xs || p x)
 any-push p [] x = elim (p x) as (λ b. (b || false) ≡ b) [ true ↦ refl | false ↦ refl ]
@@ -30,13 +31,6 @@ all-push p (y ∷ xs) x = elim (p y) as (λ b. (b && all p (xs ++ (x ∷ []))) �
 
 all-pushed : {X : Type 0} (p : X → Bool) (xs : List X) (x : X) → all p xs ≡ true → p x ≡ true → all p (xs ++ (x ∷ [])) ≡ true
 all-pushed p xs x h k = all-push p xs x ∙ and-from _ _ h k
-
--- a list without silent tags is its own sounding part
-pub sounding-all : (ts : List Tag) → all sounds ts ≡ true → sounding ts ≡ ts
-sounding-all [] h = refl
-sounding-all (t ∷ ts) h =
-    let p = and-parts (sounds t) (all sounds ts) h in
-    ap (λ b. cond b (t ∷ sounding ts) (sounding ts)) (p .0) ∙ ap (λ xs. t ∷ xs) (sounding-all ts (p .1))
 
 swap-shares : (t u : Tag) → shares t u ≡ shares u t
 swap-shares t u = grind (arith, tells)

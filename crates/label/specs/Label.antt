@@ -1,9 +1,17 @@
 -- A label as it goes on the air: its text, its tags and its item bits.
 use mathlib.Core.List.{List, [], _∷_}
-use mathlib.Core.Bool.{cond}
-use Prim.Native.Nat.{ℕ}
+use mathlib.Core.Path.{_≡_}
+use mathlib.Core.Bool.{true, not, cond}
+use Prim.Native.Nat.{ℕ, _≤_}
+use lib.Dec.{eqb}
+use lib.ListN.{length}
+use Rattle.std.specs.declared.option.Option.{Option}
+use Rattle.std.specs.declared.option.Option.the-variants.{Some, None}
 use Rattle.label.specs.declared.tag.Tag.{Tag}
 use Rattle.label.specs.declared.tag.ItemBits.{ItemBits}
+use Rattle.label.specs.Classes.{silent}
+use Rattle.label.specs.Lists.{any}
+use Rattle.label.specs.Tags.{part, has, sounding}
 
 pub record Label : Type 0 where
   pub text : List ℕ
@@ -18,3 +26,18 @@ pub record Outline : Type 0 where
 -- the label that goes on the air
 abbrev pub label-of : Outline → ItemBits → List ℕ → Label
 label-of o item text = record { text = text; tags = o .tags; item = item }
+
+-- the part that a list of tags marks for a class
+abbrev pub part-for : List ℕ → List Tag → ℕ → Option (List ℕ)
+part-for text [] c = None
+part-for text (t ∷ ts) c = cond (eqb (t .class) c) (Some (part text t)) (part-for text ts c)
+
+-- the part that a label marks for a class; None where it does not name the class
+unfoldable pub marked : Label → ℕ → Option (List ℕ)
+marked l c = cond (silent c) None (part-for (l .text) (l .tags) c)
+
+-- labels compared, silent tags and order aside
+pub record Same (x l : Label) : Type 0 where
+  pub text : x .text ≡ l .text
+  pub item : x .item ≡ l .item
+  pub tags : (t : Tag) → has t (sounding (x .tags)) ≡ has t (sounding (l .tags))

@@ -7,28 +7,38 @@ use Rattle.std.specs.declared.option.Option.the-variants.{Some, None}
 use Rattle.std.specs.declared.result.Result.{Result}
 use Rattle.std.specs.declared.result.Result.the-variants.{Ok, Err}
 use Rattle.label.specs.declared.refusal.Refusal.{Refusal}
-use Rattle.label.specs.declared.refusal.Refusal.the-variants.{NoText, TextTooLong, ControlByte, SilentClass, PartLeavesText, SharedPosition, ClassAlreadyIn, LoneDescriptor, FourTagsIn, LabelDoesNotFit, OtherText, SmallBuffer, NoSuchFrame}
+use Rattle.label.specs.declared.refusal.Refusal.the-variants.{NoText, TextTooLong, ControlByte, SilentClass, PartLeavesText, SharedPosition, ClassAlreadyIn, LoneDescriptor, FourTagsIn, LabelDoesNotFit, OtherText, SmallBuffer, NoSuchFrame, WrongSize, WrongCheck, WrongLength, OtherCharset, LaterSegmentZero, WrongCommand, UnusableGroup, TagsUnlawful, TagsUnlike}
 
 -- the calls that can be refused
 pub data Call : Type 0 where
   opening : Call
   tagging : Call
   frame-writing : Call
+  frame-taking : Call
 
 abbrev pub when-opening : Call → Bool
 when-opening opening = true
 when-opening tagging = false
 when-opening frame-writing = false
+when-opening frame-taking = false
 
 abbrev pub when-tagging : Call → Bool
 when-tagging opening = false
 when-tagging tagging = true
 when-tagging frame-writing = false
+when-tagging frame-taking = false
 
 abbrev pub when-writing : Call → Bool
 when-writing opening = false
 when-writing tagging = false
 when-writing frame-writing = true
+when-writing frame-taking = false
+
+abbrev pub when-taking : Call → Bool
+when-taking opening = false
+when-taking tagging = false
+when-taking frame-writing = false
+when-taking frame-taking = true
 
 -- a refusal carries nothing but its number; `calls` is the set of calls that may give it
 pub record Case : Type 0 where
@@ -49,6 +59,15 @@ case-of LabelDoesNotFit = record { number = 12; calls = when-writing }
 case-of OtherText = record { number = 13; calls = when-writing }
 case-of SmallBuffer = record { number = 14; calls = when-writing }
 case-of NoSuchFrame = record { number = 15; calls = when-writing }
+case-of WrongSize = record { number = 20; calls = when-taking }
+case-of WrongCheck = record { number = 21; calls = when-taking }
+case-of WrongLength = record { number = 22; calls = when-taking }
+case-of OtherCharset = record { number = 23; calls = when-taking }
+case-of LaterSegmentZero = record { number = 24; calls = when-taking }
+case-of WrongCommand = record { number = 25; calls = when-taking }
+case-of UnusableGroup = record { number = 26; calls = when-taking }
+case-of TagsUnlawful = record { number = 27; calls = when-taking }
+case-of TagsUnlike = record { number = 28; calls = when-taking }
 
 -- a call is refused only by a refusal of its own
 abbrev pub Own : {X : Type 0} → Call → Result X Refusal → Type 0

@@ -6,6 +6,7 @@ use lib.Dec.{eqb, leb, ltb}
 use lib.ListN.{take, drop}
 use Rattle.label.specs.declared.tag.Tag.{Tag}
 use Rattle.label.specs.Classes.{silent, descriptor}
+use Rattle.label.specs.Lists.{any, all}
 
 -- the part of a text that a tag marks: extent + 1 bytes from the start
 abbrev pub part : List ℕ → Tag → List ℕ
@@ -31,7 +32,7 @@ sounds t = not (silent (t .class))
 -- silent tags left out
 abbrev pub sounding : List Tag → List Tag
 sounding [] = []
-sounding (t ∷ ts) = cond (sounds t) (t ∷ sounding ts) (sounding ts)
+sounding (t ∷ ts) = cond (silent (t .class)) (sounding ts) (t ∷ sounding ts)
 
 -- the two parts share a position
 abbrev pub shares : Tag → Tag → Bool
@@ -46,3 +47,17 @@ is-descriptor t = descriptor (t .class)
 -- neither silent nor a Descriptor
 abbrev pub is-other : Tag → Bool
 is-other t = sounds t && not (descriptor (t .class))
+
+-- lists of tags compared
+abbrev pub same-tag : Tag → Tag → Bool
+same-tag t u = eqb (t .class) (u .class) && eqb (t .start) (u .start) && eqb (t .extent) (u .extent)
+
+abbrev pub has : Tag → List Tag → Bool
+has t us = any (same-tag t) us
+
+abbrev pub has-all : List Tag → List Tag → Bool
+has-all ts us = all (λ t. has t us) ts
+
+-- the same tags, silent ones and order aside
+abbrev pub alike : List Tag → List Tag → Bool
+alike ts us = has-all (sounding ts) (sounding us) && has-all (sounding us) (sounding ts)

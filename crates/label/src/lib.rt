@@ -1,4 +1,5 @@
 // Labels: classes, tags, lawful lists, drafts and sealed labels, and the refusals of the whole system.
+pub mod alike;
 pub mod category;
 pub mod draft;
 pub mod lawful;

@@ -3,7 +3,7 @@ ghost use mathlib.Core.Bool.{Bool, not, _&&_};
 ghost use Rattle.label.specs.declared.tag.Tag.{Tag};
 ghost use Rattle.label.specs.Lists.{any};
 ghost use Rattle.label.specs.Lawful.{apart};
-ghost use Rattle.label.specs.Tags.{behind, lies-in, sounds, shares, of-class, is-descriptor, is-other};
+ghost use Rattle.label.specs.Tags.{same-tag, behind, lies-in, sounds, shares, of-class, is-descriptor, is-other};
 use crate::category::Category;
 use crate::category::is_silent;
 use crate::tag::Tag;
@@ -118,5 +118,17 @@ pub impl Question for ClashesWith as ClashesWithQuestion {
 
     fn ask(&self, tag: Tag) -> bool {
         !is_silent(tag.class) && (is_of_class(self.0.class, tag) || do_share(self.0, tag))
+    }
+}
+
+// Does it sound, and is it this tag?
+#[derive(Drop)]
+pub struct Is(pub Tag);
+
+pub impl Question for Is as IsQuestion {
+    ghost answer = { λ s t. sounds t && same-tag (s .0) t };
+
+    fn ask(&self, tag: Tag) -> bool {
+        !is_silent(tag.class) && self.0.class == tag.class && self.0.start == tag.start && self.0.extent == tag.extent
     }
 }

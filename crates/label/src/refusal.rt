@@ -17,6 +17,15 @@ pub enum Refusal {
     OtherText,
     SmallBuffer,
     NoSuchFrame,
+    WrongSize,
+    WrongCheck,
+    WrongLength,
+    OtherCharset,
+    LaterSegmentZero,
+    WrongCommand,
+    UnusableGroup,
+    TagsUnlawful,
+    TagsUnlike,
 }
 
 impl Refusal {
@@ -38,6 +47,15 @@ impl Refusal {
             Refusal::OtherText => 13,
             Refusal::SmallBuffer => 14,
             Refusal::NoSuchFrame => 15,
+            Refusal::WrongSize => 20,
+            Refusal::WrongCheck => 21,
+            Refusal::WrongLength => 22,
+            Refusal::OtherCharset => 23,
+            Refusal::LaterSegmentZero => 24,
+            Refusal::WrongCommand => 25,
+            Refusal::UnusableGroup => 26,
+            Refusal::TagsUnlawful => 27,
+            Refusal::TagsUnlike => 28,
         }
     }
 }

@@ -1,0 +1,6 @@
+pub mod Hearings
+pub mod Carried
+pub mod Joining
+pub mod Idling
+pub mod Sounding
+pub mod Steps

@@ -1,0 +1,5 @@
+pub mod Pieces
+pub mod Taking
+pub mod Events
+pub mod Segments
+pub mod Views
