@@ -53,13 +53,13 @@ pub closed-length : (x : List ℕ) (s : ℕ) → length x ≤ 64 → s ≤ last-
 closed-length x s h k =
     ⊎-elim
     (λ l. let e : last-segment (length x) ≡ length x / 4 = cond-true (ltb (length x) 64) _ 15 (lt-ltb _ _ l) in
-      omega (arith, ap length (closed-short x l), length-append x closing, e, k))
+    omega (arith, ap length (closed-short x l), length-append x closing, e, k))
     (λ l. let e : last-segment (length x) ≡ 15 = cond-false (ltb (length x) 64) _ 15 (le-ltb _ _ l) in
-      omega (arith, ap length (closed-full x l), e, k))
+    omega (arith, ap length (closed-full x l), e, k))
     (short-or-full (length x))
 
 -- four bytes from a position on
-four-from : (y : List ℕ) (k : ℕ) → k + 4 ≤ length y → getD y k 0 ∷ getD y (k + 1) 0 ∷ getD y (k + 2) 0 ∷ getD y (k + 3) 0 ∷ [] ≡ take 4 (drop k y)
+pub four-from : (y : List ℕ) (k : ℕ) → k + 4 ≤ length y → getD y k 0 ∷ getD y (k + 1) 0 ∷ getD y (k + 2) 0 ∷ getD y (k + 3) 0 ∷ [] ≡ take 4 (drop k y)
 four-from y k h =
     let a = drop-more y k 0 (omega arith) in
     let b = drop-more y (k + 1) 0 (omega arith) in

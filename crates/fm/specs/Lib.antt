@@ -1,1 +1,5 @@
 pub mod Frames
+pub mod Text
+pub mod Held
+pub mod Taking
+pub mod Views

@@ -5,23 +5,37 @@ ghost use Rattle.label.specs.Drafts.{sealed-outline, matches};
 ghost use Rattle.label.specs.Label.{label-of};
 ghost use Rattle.carrier.specs.Writing.{place};
 ghost use Rattle.fm.specs.Frames.{fm-frame, fm-writing};
-use carrier::carrier::Carrier;
-use carrier::writing::PLACE;
-use carrier::writing::in_place;
-use carrier::writing::why_not_write;
+ghost use Rattle.fm.specs.Taking.{FmState, fm};
+ghost use Rattle.fm.specs.Views.{fm-view};
+use crate::fm::Fm;
 use crate::frame::announcing;
 use crate::frame::last;
 use crate::frame::tags_group;
 use crate::frame::text_segment;
+use crate::pieces::FmTextPieces;
+use crate::take::is_announcement;
+use crate::take::is_version_a;
+use crate::take::is_whole;
+use carrier::answer::Answer;
+use carrier::carrier::Carrier;
+use carrier::writing::PLACE;
+use carrier::writing::in_place;
+use carrier::writing::why_not_write;
 use label::refusal::Refusal;
 use label::sealed::Sealed;
 use label::tag::ItemBits;
-
-// The FM carrier.
-pub struct Fm;
+use label::tag::Tag;
+use taking::taken::Taking;
 
 // One frame.
-fn frame(label: &Sealed, item: ItemBits, text: &[u8], toggle: bool, service: u16, number: usize) -> [u8; 8]
+fn frame(
+    label: &Sealed,
+    item: ItemBits,
+    text: &[u8],
+    toggle: bool,
+    service: u16,
+    number: usize,
+) -> [u8; 8]
     requires fit { ⌜ fm-writing .fits (sealed-outline (now label)) ≡ true ⌝ }
     requires over { ⌜ matches (sealed-outline (now label)) (now text) ≡ true ⌝ }
     requires one { ⌜ number < fm-writing .count (sealed-outline (now label)) ⌝ }
@@ -38,7 +52,14 @@ fn frame(label: &Sealed, item: ItemBits, text: &[u8], toggle: bool, service: u16
 }
 
 // One frame in its place.
-fn lay(label: &Sealed, item: ItemBits, text: &[u8], toggle: bool, service: u16, number: usize) -> [u8; 21]
+fn lay(
+    label: &Sealed,
+    item: ItemBits,
+    text: &[u8],
+    toggle: bool,
+    service: u16,
+    number: usize,
+) -> [u8; 21]
     requires fit { ⌜ fm-writing .fits (sealed-outline (now label)) ≡ true ⌝ }
     requires over { ⌜ matches (sealed-outline (now label)) (now text) ≡ true ⌝ }
     requires one { ⌜ number < fm-writing .count (sealed-outline (now label)) ⌝ }
@@ -48,7 +69,11 @@ fn lay(label: &Sealed, item: ItemBits, text: &[u8], toggle: bool, service: u16, 
 }
 
 pub impl Carrier for Fm as FmCarrier {
-    ghost writing = { fm-writing };
+    ghost State = { FmState };
+
+    ghost state = { fm-view };
+
+    ghost meaning = { fm };
 
     fn fits(label: &Sealed) -> bool {
         label.len() <= 64 && label.tags().len() <= 2
@@ -67,11 +92,65 @@ pub impl Carrier for Fm as FmCarrier {
         number: usize,
         space: &mut [u8],
     ) -> Result<(), Refusal> {
-        if let Some(refusal) = why_not_write(Self::fits(label), Self::count(label), label, text, number, space.len()) {
+        if let Some(refusal) = why_not_write(
+            Self::fits(label),
+            Self::count(label),
+            label,
+            text,
+            number,
+            space.len(),
+        ) {
             return Err(refusal);
         }
         let place = lay(label, item, text, toggle, service, number);
         space[0..PLACE].copy_from_slice(&place);
         Ok(())
+    }
+
+    fn new() -> Fm {
+        Fm {
+            taking: Taking::new(),
+            group: None,
+        }
+    }
+
+    fn take(&mut self, frame: &[u8]) -> Result<Answer, Refusal> {
+        if !is_whole(frame) {
+            return Err(Refusal::WrongSize);
+        }
+        if !is_version_a(frame) {
+            return Ok(Answer::PassedOver);
+        }
+        let group = frame[2] / 16;
+        if group == 2 {
+            return Ok(self.take_text(frame));
+        }
+        if is_announcement(frame) {
+            return self.learn(frame);
+        }
+        if self.has_learnt(group) {
+            return self.take_tags(frame);
+        }
+        Ok(Answer::PassedOver)
+    }
+
+    fn standing(&self) -> Option<bool> {
+        self.taking.standing()
+    }
+
+    fn is_complete(&self) -> bool {
+        self.taking.is_complete()
+    }
+
+    fn text(&self) -> &[u8] {
+        self.taking.text()
+    }
+
+    fn tags(&self) -> &[Tag] {
+        self.taking.tags()
+    }
+
+    fn item(&self) -> ItemBits {
+        self.taking.item()
     }
 }

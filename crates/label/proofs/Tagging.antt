@@ -32,10 +32,10 @@ all-push p (y ∷ xs) x = elim (p y) as (λ b. (b && all p (xs ++ (x ∷ []))) �
 all-pushed : {X : Type 0} (p : X → Bool) (xs : List X) (x : X) → all p xs ≡ true → p x ≡ true → all p (xs ++ (x ∷ [])) ≡ true
 all-pushed p xs x h k = all-push p xs x ∙ and-from _ _ h k
 
-swap-shares : (t u : Tag) → shares t u ≡ shares u t
+pub swap-shares : (t u : Tag) → shares t u ≡ shares u t
 swap-shares t u = grind (arith, tells)
 
-swap-class : (t u : Tag) → of-class (t .class) u ≡ of-class (u .class) t
+pub swap-class : (t u : Tag) → of-class (t .class) u ≡ of-class (u .class) t
 swap-class t u = grind (arith, tells)
 
 apart-push : (ts : List Tag) (t : Tag) → all-apart ts ≡ true → any (shares t) ts ≡ false → any (of-class (t .class)) ts ≡ false → all-apart (ts ++ (t ∷ [])) ≡ true

@@ -129,6 +129,9 @@ pub impl Question for Is as IsQuestion {
     ghost answer = { λ s t. sounds t && same-tag (s .0) t };
 
     fn ask(&self, tag: Tag) -> bool {
-        !is_silent(tag.class) && self.0.class == tag.class && self.0.start == tag.start && self.0.extent == tag.extent
+        !is_silent(tag.class)
+            && self.0.class == tag.class
+            && self.0.start == tag.start
+            && self.0.extent == tag.extent
     }
 }

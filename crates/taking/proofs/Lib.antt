@@ -4,3 +4,5 @@ pub mod Joining
 pub mod Idling
 pub mod Sounding
 pub mod Steps
+pub mod Cutting
+pub mod Telling

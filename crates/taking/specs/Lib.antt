@@ -3,3 +3,4 @@ pub mod Taking
 pub mod Events
 pub mod Segments
 pub mod Views
+pub mod Bytes

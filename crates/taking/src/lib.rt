@@ -5,3 +5,4 @@ pub mod pieces;
 pub mod take;
 pub mod taken;
 pub mod tell;
+pub mod told;

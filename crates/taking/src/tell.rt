@@ -22,7 +22,11 @@ impl Arrived {
         if count < 4 {
             return Arrived { item, tags, count };
         }
-        Arrived { item, tags, count: 4 }
+        Arrived {
+            item,
+            tags,
+            count: 4,
+        }
     }
 
     // The tags are lawful for a text of this many bytes.
@@ -38,7 +42,11 @@ impl Arrived {
         ensures item { λ r. ⌜ r .item ≡ now (self .entry) .item ⌝ }
         ensures tags { λ r. ⌜ tags-of r .tags ≡ sounding (tags-of (now (self .entry)) .tags) ⌝ }
     {
-        let mut tags = [Tag { class: 0, start: 0, extent: 0 }; 4];
+        let mut tags = [Tag {
+            class: 0,
+            start: 0,
+            extent: 0,
+        }; 4];
         let mut count = 0;
         for i in 0..self.count {
             if !is_silent(self.tags[i].class) {
@@ -46,7 +54,11 @@ impl Arrived {
                 count += 1;
             }
         }
-        Arrived { item: self.item, tags, count }
+        Arrived {
+            item: self.item,
+            tags,
+            count,
+        }
     }
 
     // The label that they tell over a text.
@@ -56,7 +68,13 @@ impl Arrived {
         ensures { λ r. ⌜ told-label r ≡ label-from (take len text) (tags-of (now (self .entry))) ⌝ }
     {
         let Arrived { item, tags, count } = self.sounded();
-        Told { text, len, item, tags, count }
+        Told {
+            text,
+            len,
+            item,
+            tags,
+            count,
+        }
     }
 }
 
@@ -73,6 +91,7 @@ impl Told {
     {
         let held = self.count;
         let came = arrived.count;
-        are_alike(&self.tags[0..held], &arrived.tags[0..came]) && is_same_item(self.item, arrived.item)
+        are_alike(&self.tags[0..held], &arrived.tags[0..came])
+            && is_same_item(self.item, arrived.item)
     }
 }
