@@ -53,9 +53,9 @@ pub closed-length : (x : List ℕ) (s : ℕ) → length x ≤ 64 → s ≤ last-
 closed-length x s h k =
     ⊎-elim
     (λ l. let e : last-segment (length x) ≡ length x / 4 = cond-true (ltb (length x) 64) _ 15 (lt-ltb _ _ l) in
-      omega (arith, ap length (closed-short x l), length-append x closing, e, k))
+    omega (arith, ap length (closed-short x l), length-append x closing, e, k))
     (λ l. let e : last-segment (length x) ≡ 15 = cond-false (ltb (length x) 64) _ 15 (le-ltb _ _ l) in
-      omega (arith, ap length (closed-full x l), e, k))
+    omega (arith, ap length (closed-full x l), e, k))
     (short-or-full (length x))
 
 -- four bytes from a position on

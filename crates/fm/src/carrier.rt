@@ -5,14 +5,14 @@ ghost use Rattle.label.specs.Drafts.{sealed-outline, matches};
 ghost use Rattle.label.specs.Label.{label-of};
 ghost use Rattle.carrier.specs.Writing.{place};
 ghost use Rattle.fm.specs.Frames.{fm-frame, fm-writing};
-use carrier::carrier::Carrier;
-use carrier::writing::PLACE;
-use carrier::writing::in_place;
-use carrier::writing::why_not_write;
 use crate::frame::announcing;
 use crate::frame::last;
 use crate::frame::tags_group;
 use crate::frame::text_segment;
+use carrier::carrier::Carrier;
+use carrier::writing::PLACE;
+use carrier::writing::in_place;
+use carrier::writing::why_not_write;
 use label::refusal::Refusal;
 use label::sealed::Sealed;
 use label::tag::ItemBits;
@@ -21,7 +21,14 @@ use label::tag::ItemBits;
 pub struct Fm;
 
 // One frame.
-fn frame(label: &Sealed, item: ItemBits, text: &[u8], toggle: bool, service: u16, number: usize) -> [u8; 8]
+fn frame(
+    label: &Sealed,
+    item: ItemBits,
+    text: &[u8],
+    toggle: bool,
+    service: u16,
+    number: usize,
+) -> [u8; 8]
     requires fit { ⌜ fm-writing .fits (sealed-outline (now label)) ≡ true ⌝ }
     requires over { ⌜ matches (sealed-outline (now label)) (now text) ≡ true ⌝ }
     requires one { ⌜ number < fm-writing .count (sealed-outline (now label)) ⌝ }
@@ -38,7 +45,14 @@ fn frame(label: &Sealed, item: ItemBits, text: &[u8], toggle: bool, service: u16
 }
 
 // One frame in its place.
-fn lay(label: &Sealed, item: ItemBits, text: &[u8], toggle: bool, service: u16, number: usize) -> [u8; 21]
+fn lay(
+    label: &Sealed,
+    item: ItemBits,
+    text: &[u8],
+    toggle: bool,
+    service: u16,
+    number: usize,
+) -> [u8; 21]
     requires fit { ⌜ fm-writing .fits (sealed-outline (now label)) ≡ true ⌝ }
     requires over { ⌜ matches (sealed-outline (now label)) (now text) ≡ true ⌝ }
     requires one { ⌜ number < fm-writing .count (sealed-outline (now label)) ⌝ }
@@ -67,7 +81,14 @@ pub impl Carrier for Fm as FmCarrier {
         number: usize,
         space: &mut [u8],
     ) -> Result<(), Refusal> {
-        if let Some(refusal) = why_not_write(Self::fits(label), Self::count(label), label, text, number, space.len()) {
+        if let Some(refusal) = why_not_write(
+            Self::fits(label),
+            Self::count(label),
+            label,
+            text,
+            number,
+            space.len(),
+        ) {
             return Err(refusal);
         }
         let place = lay(label, item, text, toggle, service, number);

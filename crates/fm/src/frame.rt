@@ -30,7 +30,16 @@ fn bit(b: bool) -> u64
 pub(crate) fn announcing(service: u16) -> [u8; 8]
     ensures { λ r. ⌜ r ≡ announcing-frame service ⌝ }
 {
-    [(service / 256) as u8, (service % 256) as u8, 0x30, 22, 0, 0, 0x4B, 0xD7]
+    [
+        (service / 256) as u8,
+        (service % 256) as u8,
+        0x30,
+        22,
+        0,
+        0,
+        0x4B,
+        0xD7,
+    ]
 }
 
 // The 37 bits of a tag group.
@@ -38,7 +47,8 @@ fn pack(item: ItemBits, t: Tag, u: Tag) -> u64
     ensures value { λ r. ⌜ r ≡ tag-bits item t u ⌝ }
     ensures bound { λ r. ⌜ r < 2 ^ 40 ⌝ }
 {
-    let first = ((bit(item.toggle) * 2 + bit(item.running)) * 64 + t.class as u64) * 64 + t.start as u64;
+    let first = ((bit(item.toggle) * 2 + bit(item.running)) * 64 + t.class as u64) * 64
+        + t.start as u64;
     let second = (first * 64 + t.extent as u64) * 64 + u.class as u64;
     (second * 64 + u.start as u64) * 32 + u.extent as u64
 }
@@ -91,17 +101,15 @@ fn pair(tags: &[Tag]) -> (Tag, Tag)
     ensures first { λ r. ⌜ r .0 ≡ first-of (sent-tags (now (tags .entry))) ⌝ }
     ensures second { λ r. ⌜ r .1 ≡ second-of (sent-tags (now (tags .entry))) ⌝ }
 {
-    let dummy = Tag { class: 0, start: 0, extent: 0 };
+    let dummy = Tag {
+        class: 0,
+        start: 0,
+        extent: 0,
+    };
     match tags {
         [] => (dummy, dummy),
         [t] => (*t, dummy),
-        [t, u, ..] => {
-            if u.extent >= 32 {
-                (*u, *t)
-            } else {
-                (*t, *u)
-            }
-        }
+        [t, u, ..] => { if u.extent >= 32 { (*u, *t) } else { (*t, *u) } }
     }
 }
 

@@ -7,18 +7,18 @@ ghost use Rattle.label.specs.Refusals.{Own, OwnReason, opening, tagging};
 ghost use Rattle.label.specs.Drafts.{draft-outline, sealed-outline, control, opening-refusal, Opens, tagging-refusal, tagged, done, left, matches};
 use crate::category::is_silent;
 use crate::question::IsDescriptor;
+use crate::question::IsDescriptorQuestion;
 use crate::question::IsOther;
+use crate::question::IsOtherQuestion;
 use crate::question::OfClass;
+use crate::question::OfClassQuestion;
 use crate::question::SharesWith;
+use crate::question::SharesWithQuestion;
 use crate::question::any_tag;
 use crate::refusal::Refusal;
 use crate::sealed::Draft;
 use crate::sealed::Sealed;
 use crate::tag::Tag;
-use crate::question::IsDescriptorQuestion;
-use crate::question::IsOtherQuestion;
-use crate::question::OfClassQuestion;
-use crate::question::SharesWithQuestion;
 
 fn has_control(text: &[u8]) -> bool
     ensures { λ r. ⌜ r ≡ any control (now (text .entry)) ⌝ }
@@ -83,8 +83,16 @@ impl Draft {
         if let Some(refusal) = why_not_open(text) {
             return Err(refusal);
         }
-        let none = Tag { class: 0, start: 0, extent: 0 };
-        Ok(Draft { len: text.len(), count: 0, tags: [none; 4] })
+        let none = Tag {
+            class: 0,
+            start: 0,
+            extent: 0,
+        };
+        Ok(Draft {
+            len: text.len(),
+            count: 0,
+            tags: [none; 4],
+        })
     }
 
     // Adds a tag behind the others.

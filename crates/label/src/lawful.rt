@@ -5,15 +5,15 @@ ghost use Rattle.label.specs.Lawful.{apart, all-apart, accompanied, lawful};
 ghost use Rattle.label.specs.Tags.{lies-in, sounds, sounding};
 use crate::category::is_silent;
 use crate::question::ClashesWith;
+use crate::question::ClashesWithQuestion;
 use crate::question::IsDescriptor;
+use crate::question::IsDescriptorQuestion;
 use crate::question::IsOther;
+use crate::question::IsOtherQuestion;
 use crate::question::Leaves;
+use crate::question::LeavesQuestion;
 use crate::question::any_tag;
 use crate::tag::Tag;
-use crate::question::ClashesWithQuestion;
-use crate::question::IsDescriptorQuestion;
-use crate::question::IsOtherQuestion;
-use crate::question::LeavesQuestion;
 
 // The tag sounds, and clashes with one of the rest that sounds.
 fn clashes(tag: Tag, rest: &[Tag]) -> bool

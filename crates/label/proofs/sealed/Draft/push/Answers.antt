@@ -21,11 +21,16 @@ pub ghost-self : need.ghost-self
 ghost-self c =
     let d = c .args .self .now in
     let t = c .args .tag in
-    let l = has-room d t (omega arith) (c .pre) in
-    ( d .some
-    , (d .short
-    , (omega (arith, l)
-    , (ap (sealable (d .len)) (take-more-set (d .tags) (d .count) t l) ∙ sealable-push (d .len) (take (d .count) (d .tags)) t (d .right) (c .pre), tt))))
+    let l = has-room d t (omega arith) (c .pre) in (
+      d .some,
+      (
+        d .short,
+        (
+          omega (arith, l),
+          (ap (sealable (d .len)) (take-more-set (d .tags) (d .count) t l) ∙ sealable-push (d .len) (take (d .count) (d .tags)) t (d .right) (c .pre), tt),
+        ),
+      ),
+    )
 
 pub returns : need.returns
 returns c =

@@ -1,0 +1,4 @@
+mod Places
+mod Segments
+mod TagBytes
+mod Order

@@ -1,0 +1,2 @@
+// The DAB carrier.
+pub struct Dab;
