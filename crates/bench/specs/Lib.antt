@@ -1,0 +1,4 @@
+pub mod Carriers
+pub mod Digits
+pub mod Lines
+pub mod State

@@ -1,0 +1,5 @@
+// Worked labels, as tests of the layers below.
+#[cfg(test)]
+mod drafts;
+#[cfg(test)]
+mod frames;

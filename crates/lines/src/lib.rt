@@ -1,0 +1,3 @@
+// Frames and refusals as lines of text.
+pub mod form;
+pub mod reason;

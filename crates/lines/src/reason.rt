@@ -1,0 +1,20 @@
+use label::refusal::Refusal;
+
+// Why a call was refused, in words.
+pub fn reason(refusal: Refusal) -> &'static str {
+    match refusal {
+        Refusal::NoText => "there is no text",
+        Refusal::TextTooLong => "the text has more than 128 bytes",
+        Refusal::ControlByte => "the text has a byte below 0x20",
+        Refusal::SilentClass => "a tag's class marks nothing",
+        Refusal::PartLeavesText => "a tag's part leaves the text",
+        Refusal::SharedPosition => "two tags' parts share a position",
+        Refusal::ClassAlreadyIn => "two tags have one class",
+        Refusal::LoneDescriptor => "a descriptor has no tag of another category beside it",
+        Refusal::FourTagsIn => "the label has four tags already",
+        Refusal::LabelDoesNotFit => "the label does not fit this carrier",
+        Refusal::OtherText => "the text is not the one that the label was made for",
+        Refusal::SmallBuffer => "the buffer is too small",
+        Refusal::NoSuchFrame => "the label has no frame of this number",
+    }
+}

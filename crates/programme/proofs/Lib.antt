@@ -1,0 +1,4 @@
+mod Marked
+mod Numbers
+mod Scans
+mod Values
