@@ -12,7 +12,7 @@ use crate::prefix::tags_first;
 use label::tag::ItemBits;
 use label::tag::Tag;
 
-const NO_TAG: Tag = Tag {
+pub(crate) const NO_TAG: Tag = Tag {
     class: 0,
     start: 0,
     extent: 0,

@@ -1,2 +1,8 @@
+use crate::held::DabText;
+use taking::taken::Taking;
+
 // The DAB carrier.
-pub struct Dab;
+#[derive(Drop)]
+pub struct Dab {
+    pub(crate) taking: Taking<DabText>,
+}

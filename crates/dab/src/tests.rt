@@ -1,7 +1,9 @@
+use crate::carrier::DabCarrier;
 use crate::dab::Dab;
-use crate::writing::DabCarrier;
+use carrier::answer;
 use carrier::carrier::Carrier;
 use label::draft;
+use label::refusal;
 use label::sealed::Draft;
 use label::sealed::Sealed;
 use label::tag::ItemBits;
@@ -88,4 +90,32 @@ fn counts() -> Result<(), Fail> {
 #[test]
 fn no_third_frame() -> Result<(), Fail> {
     check(sill_frame(2).is_none())
+}
+
+// The number of the answer, or of the refusal.
+fn answer(dab: &mut Dab, frame: &[u8]) -> u8 {
+    match dab.take(frame) {
+        Ok(answer) => answer.number(),
+        Err(refusal) => refusal.number(),
+    }
+}
+
+#[test]
+fn hears_the_sill() -> Result<(), Fail> {
+    let mut dab = Dab::new();
+    let command = b"\x72\x03\x00\x38\x05\x02\x62\x52";
+    let text = b"\x69\x00Sill 2.4 m\x8a\x06";
+    check_eq(answer(&mut dab, command), 1)?;
+    check_eq(answer(&mut dab, text), 2)?;
+    check_eq(answer(&mut dab, command), 3)?;
+    check_eq(dab.text(), SILL)?;
+    check_eq(dab.standing(), Some(false))
+}
+
+#[test]
+fn refuses_a_false_check() -> Result<(), Fail> {
+    let mut dab = Dab::new();
+    check_eq(answer(&mut dab, b"\x69\x00Sill 2.4 m\x8a\x07"), 21)?;
+    check_eq(answer(&mut dab, b"\x69\x00\x8a\x06"), 20)?;
+    check(!dab.is_complete())
 }
