@@ -5,7 +5,7 @@ ghost use lib.ListN.{length, drop};
 ghost use Rattle.std.specs.Options.{isSome};
 ghost use Rattle.label.specs.Drafts.{sealed-outline, done, left};
 ghost use Rattle.label.specs.Label.{label-of};
-ghost use Rattle.label.specs.Refusals.{Own, frame-writing, frame-taking};
+ghost use Rattle.label.specs.Refusals.{Own, frame-writing};
 ghost use Rattle.carrier.specs.Hearing.{Lawful};
 ghost use Rattle.carrier.specs.Meaning.{Meaning, reply, next, told-text, told-tags, told-item, Plain};
 ghost use Rattle.carrier.specs.Writing.{place, write-refusal};

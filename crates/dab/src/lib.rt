@@ -10,7 +10,5 @@ mod prefix;
 mod segment;
 mod tags;
 mod take;
-#[cfg(test)]
-mod tests;
 mod text;
 mod writing;

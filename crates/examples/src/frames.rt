@@ -1,8 +1,8 @@
 use carrier::carrier::Carrier;
+use dab::carrier::DabCarrier;
 use dab::dab::Dab;
-use dab::writing::DabCarrier;
-use fm::carrier::Fm;
 use fm::carrier::FmCarrier;
+use fm::fm::Fm;
 use label::draft;
 use label::refusal;
 use label::sealed::Draft;
@@ -158,4 +158,67 @@ fn writing_is_refused() -> Result<(), Fail> {
     check_eq(writing(SILL, SILL, 99, 20), 14)?;
     check_eq(writing(SILL, SILL, 5, 21), 15)?;
     check_eq(writing(SILL, SILL, 4, 21), 0)
+}
+
+// A frame of the sill's label on DAB, as its place holds it.
+fn dab_place(number: usize) -> Option<[u8; 22]> {
+    let mut place = [0xEE; 22];
+    let label = sill()?;
+    Dab::write(&label, NO_ITEM, SILL, false, 0x1234, number, &mut place).ok()?;
+    Some(place)
+}
+
+#[test]
+fn the_sill_on_dab() -> Result<(), Fail> {
+    let text = [
+        14,
+        0x69,
+        0x00,
+        0x53,
+        0x69,
+        0x6C,
+        0x6C,
+        0x20,
+        0x32,
+        0x2E,
+        0x34,
+        0x20,
+        0x6D,
+        0x8A,
+        0x06,
+        0,
+        0,
+        0,
+        0,
+        0,
+        0,
+        0xEE,
+    ];
+    let command = [
+        8,
+        0x72,
+        0x03,
+        0x00,
+        0x38,
+        0x05,
+        0x02,
+        0x62,
+        0x52,
+        0,
+        0,
+        0,
+        0,
+        0,
+        0,
+        0,
+        0,
+        0,
+        0,
+        0,
+        0,
+        0xEE,
+    ];
+    check_eq(dab_place(0), Some(text))?;
+    check_eq(dab_place(1), Some(command))?;
+    check_eq(dab_place(2), None)
 }

@@ -3,3 +3,5 @@
 mod drafts;
 #[cfg(test)]
 mod frames;
+#[cfg(test)]
+mod hearing;

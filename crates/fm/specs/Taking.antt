@@ -81,7 +81,7 @@ unpacked n = record {
       ∷ record { class = n / 32 / 64 % 64; start = n / 32 % 64; extent = n % 32 } ∷ [];
 }
 
--- group A of version A: text, announcement, tags, or another's
+-- a group of version A: text, announcement, tags, or another's
 abbrev pub step-a : FmState → List ℕ → Outcome FmState
 step-a s f =
     cond (eqb (group-of f) 2) (lifted s (on-text fm-pieces (s .core) (text-toggle f) (text-piece f)))

@@ -1,3 +1,4 @@
 pub mod Any
+pub mod Marks
 pub mod Sounding
 pub mod Tagging

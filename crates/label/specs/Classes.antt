@@ -1,4 +1,5 @@
 -- Content classes: their categories, and which are silent.
+use mathlib.Core.List.{List, [], _∷_}
 use mathlib.Core.Bool.{Bool, cond, _&&_, _||_}
 use Prim.Native.Nat.{ℕ}
 use lib.Dec.{eqb, leb, ltb}
@@ -26,6 +27,10 @@ silent c = eqb c 0 || eqb c 54 || eqb c 55 || ltb 63 c
 
 abbrev pub item-class : ℕ → Bool
 item-class c = between 1 11 c
+
+-- the classes of Item one by one
+abbrev pub item-classes : List ℕ
+item-classes = 1 ∷ (2 ∷ (3 ∷ (4 ∷ (5 ∷ (6 ∷ (7 ∷ (8 ∷ (9 ∷ (10 ∷ (11 ∷ []))))))))))
 
 abbrev pub descriptor : ℕ → Bool
 descriptor c = between 59 63 c

@@ -16,5 +16,14 @@ pub fn reason(refusal: Refusal) -> &'static str {
         Refusal::OtherText => "the text is not the one that the label was made for",
         Refusal::SmallBuffer => "the buffer is too small",
         Refusal::NoSuchFrame => "the label has no frame of this number",
+        Refusal::WrongSize => "no frame of this carrier has so many bytes",
+        Refusal::WrongCheck => "the check bytes are wrong",
+        Refusal::WrongLength => "the length field is wrong",
+        Refusal::OtherCharset => "the text is in another character set",
+        Refusal::LaterSegmentZero => "a later segment has the number 0",
+        Refusal::WrongCommand => "the command with the tags is malformed",
+        Refusal::UnusableGroup => "the announced group cannot carry tags",
+        Refusal::TagsUnlawful => "the tags are unlawful for the text",
+        Refusal::TagsUnlike => "the tags or item bits are not those of the complete label",
     }
 }

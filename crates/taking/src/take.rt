@@ -33,15 +33,22 @@ impl<P: Pieces> Taking<P> {
         }
     }
 
+    // Forgets text, tags and completeness; the toggle stands.
+    fn forget(&mut self, toggle: bool)
+        ensures { λ _. ⌜ view held (now (self .exit)) ≡ forgotten pieces toggle ⌝ }
+    {
+        self.pieces.clear();
+        self.standing = Some(toggle);
+        self.waiting = None;
+        self.told = None;
+    }
+
     // Forgets all, and holds the piece as the first of a new text.
     fn begin(&mut self, toggle: bool, piece: &P::Piece)
         ensures { λ _. ⌜ view held (now (self .exit)) ≡ begun pieces toggle (meant (now (piece .entry))) ⌝ }
     {
-        self.pieces.clear();
+        self.forget(toggle);
         self.pieces.put(piece);
-        self.standing = Some(toggle);
-        self.waiting = None;
-        self.told = None;
     }
 
     // A piece of a text arrives.
@@ -108,10 +115,8 @@ impl<P: Pieces> Taking<P> {
     fn begin_tags(&mut self, toggle: bool, arrived: &Arrived)
         ensures { λ _. ⌜ view held (now (self .exit)) ≡ waiting-for (forgotten pieces toggle) (tags-of (now (arrived .entry))) ⌝ }
     {
-        self.pieces.clear();
-        self.standing = Some(toggle);
+        self.forget(toggle);
         self.waiting = Some(*arrived);
-        self.told = None;
     }
 
     // Tags arrive, with their message toggle where the carrier's tags have one.

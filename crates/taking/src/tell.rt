@@ -91,7 +91,7 @@ impl Told {
     {
         let held = self.count;
         let came = arrived.count;
-        are_alike(&self.tags[0..held], &arrived.tags[0..came])
-            && is_same_item(self.item, arrived.item)
+        let alike = are_alike(&self.tags[0..held], &arrived.tags[0..came]);
+        alike && is_same_item(self.item, arrived.item)
     }
 }

@@ -1,0 +1,3 @@
+// The station: item starts, item ends, and labels sent as frames.
+mod places;
+pub mod station;
