@@ -12,6 +12,8 @@ pub fn reason(refusal: Refusal) -> &'static str {
         Refusal::ClassAlreadyIn => "two tags have one class",
         Refusal::LoneDescriptor => "a descriptor has no tag of another category beside it",
         Refusal::FourTagsIn => "the label has four tags already",
+        Refusal::ItemStarted => "an item was started since the last label",
+        Refusal::NoItemRuns => "no item runs",
         Refusal::LabelDoesNotFit => "the label does not fit this carrier",
         Refusal::OtherText => "the text is not the one that the label was made for",
         Refusal::SmallBuffer => "the buffer is too small",
