@@ -4,3 +4,4 @@ pub mod Words
 pub mod Stations
 pub mod Shows
 pub mod Hearings
+pub mod Noise

@@ -6,3 +6,4 @@ pub mod History
 pub mod Words
 pub mod Holds
 pub mod Runs
+pub mod Noise

@@ -1,4 +1,5 @@
 ghost use Rattle.agreement.specs.Holds.{Decides};
+ghost use Rattle.agreement.specs.Noise.{HearsThroughNoise};
 ghost use Rattle.agreement.specs.Runs.{Agreement, CanBeHeard, ToldByHistory};
 ghost use Rattle.agreement.specs.Words.{HistoryInWords};
 use carrier::carrier::Carrier;
@@ -26,4 +27,9 @@ pub fn history_in_words()
 // Whatever a station sends, there are full hearings of it.
 pub fn can_be_heard<C: Carrier>()
     ensures { λ _. ⌜ CanBeHeard (C·Carrier .meaning) ⌝ }
+{}
+
+// The hearing laws hold with frames strewn in between that are passed over, answered as heard again, or refused.
+pub fn hears_through_noise<C: Carrier>()
+    ensures { λ _. ⌜ HearsThroughNoise (C·Carrier .meaning) ⌝ }
 {}
