@@ -8,118 +8,118 @@ use Rattle.label.specs.Drafts.{matches, left}
 use Rattle.label.specs.Label.{Label}
 use Rattle.carrier.specs.Meaning.{Meaning}
 use Rattle.agreement.specs.Calls.{Call, start, end, send, Made, calls}
-use Rattle.agreement.specs.History.{Event, started, ended, sent, only, behind-label, labels-back, sent-labels, odd, refusal, refusal-on, event, history, history-on, refusals, refusals-on, aired-back, aired-by, vars-of, Enough, Ample}
-use Rattle.agreement.specs.Station.{Vars, new-vars, call-refusal, call-vars, call_step, replies, vars-after, Aired, labels, puts-out, aired}
+use Rattle.agreement.specs.History.{Event, started, ended, sent, only, behind_label, labels_back, sent_labels, odd, refusal, refusal_on, event, history, history_on, refusals, refusals_on, aired_back, aired_by, vars_of, Enough, Ample}
+use Rattle.agreement.specs.Station.{Vars, new_vars, call_refusal, call_vars, call_step, replies, vars_after, Aired, labels, puts_out, aired}
 
-left-ap : {X Y : Type 0} (f : X → Y) (o : Option Refusal) {y : Y} (new old : X) → y ≡ f new → left o y (f old) ≡ f (left o new old)
-left-ap f None new old e = e
-left-ap f (Some x) new old e = refl
+left_ap : {X Y : Type 0} (f : X → Y) (o : Option Refusal) {y : Y} (new old : X) → y ≡ f new → left o y (f old) ≡ f (left o new old)
+left_ap f None new old e = e
+left_ap f (Some x) new old e = refl
 
-room-enough : (b : Bool) (room need : ℕ) → (b ≡ true → need ≤ room) → cond (not b) (Some OtherText) (cond (ltb room need) (Some SmallBuffer) None) ≡ cond b None (Some OtherText)
-room-enough true room need h = ap (λ t. cond t (Some SmallBuffer) None) (le-ltb room need (h refl))
-room-enough false room need h = refl
+room_enough : (b : Bool) (room need : ℕ) → (b ≡ true → need ≤ room) → cond (not b) (Some OtherText) (cond (ltb room need) (Some SmallBuffer) None) ≡ cond b None (Some OtherText)
+room_enough true room need h = ap (λ t. cond t (Some SmallBuffer) None) (le-ltb room need (h refl))
+room_enough false room need h = refl
 
 module _ {S : Type 0} (m : Meaning S) where
   later : List Event → Made → List Event
-  later h a = left (refusal-on m h a.call a.room) (event h a.call ∷ h) h
+  later h a = left (refusal_on m h a.call a.room) (event h a.call ∷ h) h
 
-  same-refusal : (h : List Event) (c : Call) (room : ℕ) → call-refusal m (vars-of h) c room ≡ refusal-on m h c room
-  same-refusal h start room = refl
-  same-refusal h end room = refl
-  same-refusal h (send x text) room = refl
+  same_refusal : (h : List Event) (c : Call) (room : ℕ) → call_refusal m (vars_of h) c room ≡ refusal_on m h c room
+  same_refusal h start room = refl
+  same_refusal h end room = refl
+  same_refusal h (send x text) room = refl
 
-  vars-event : (h : List Event) (c : Call) → call-vars (vars-of h) c ≡ vars-of (event h c ∷ h)
-  unfolding only behind-label labels-back odd
-  vars-event h start = refl
-  vars-event h end = refl
-  vars-event h (send x text) = refl
+  vars_event : (h : List Event) (c : Call) → call_vars (vars_of h) c ≡ vars_of (event h c ∷ h)
+  unfolding only behind_label labels_back odd
+  vars_event h start = refl
+  vars_event h end = refl
+  vars_event h (send x text) = refl
 
-  vars-step : (h : List Event) (a : Made) → call_step m (vars-of h) a ≡ vars-of (later h a)
+  vars_step : (h : List Event) (a : Made) → call_step m (vars_of h) a ≡ vars_of (later h a)
   unfolding later
-  vars-step h a =
-      ap (λ o. left o (call-vars (vars-of h) a.call) (vars-of h)) (same-refusal h a.call a.room)
-      ∙ left-ap vars-of (refusal-on m h a.call a.room) (event h a.call ∷ h) h (vars-event h a.call)
+  vars_step h a =
+      ap (λ o. left o (call_vars (vars_of h) a.call) (vars_of h)) (same_refusal h a.call a.room)
+      ∙ left_ap vars_of (refusal_on m h a.call a.room) (event h a.call ∷ h) h (vars_event h a.call)
 
-  pub vars-told : (ms : List Made) (h : List Event) → vars-after m (vars-of h) ms ≡ vars-of (history-on m h ms)
-  unfolding vars-after history-on later
-  vars-told [] h = refl
-  vars-told (a ∷ ms) h = ap (λ s. vars-after m s ms) (vars-step h a) ∙ vars-told ms (later h a)
+  pub vars_told : (ms : List Made) (h : List Event) → vars_after m (vars_of h) ms ≡ vars_of (history_on m h ms)
+  unfolding vars_after history_on later
+  vars_told [] h = refl
+  vars_told (a ∷ ms) h = ap (λ s. vars_after m s ms) (vars_step h a) ∙ vars_told ms (later h a)
 
-  pub replies-told : (ms : List Made) (h : List Event) → replies m (vars-of h) ms ≡ refusals-on m h ms
-  unfolding replies refusals-on later
-  replies-told [] h = refl
-  replies-told (a ∷ ms) h =
-      ap (λ s. call-refusal m (vars-of h) a.call a.room ∷ replies m s ms) (vars-step h a)
-      ∙ ap (λ o. o ∷ replies m (vars-of (later h a)) ms) (same-refusal h a.call a.room)
-      ∙ ap (λ os. refusal-on m h a.call a.room ∷ os) (replies-told ms (later h a))
+  pub replies_told : (ms : List Made) (h : List Event) → replies m (vars_of h) ms ≡ refusals_on m h ms
+  unfolding replies refusals_on later
+  replies_told [] h = refl
+  replies_told (a ∷ ms) h =
+      ap (λ s. call_refusal m (vars_of h) a.call a.room ∷ replies m s ms) (vars_step h a)
+      ∙ ap (λ o. o ∷ replies m (vars_of (later h a)) ms) (same_refusal h a.call a.room)
+      ∙ ap (λ os. refusal_on m h a.call a.room ∷ os) (replies_told ms (later h a))
 
   -- what is on the air is what the history says
-  aired-step : (h : List Event) (c : Call) (o : Option Refusal) (xs : List Aired)
-      → reverse_aux (aired-back h) (left o (puts-out (vars-of h) c xs) xs) ≡ reverse_aux (aired-back (left o (event h c ∷ h) h)) xs
-  unfolding aired-back
-  aired-step h start None xs = refl
-  aired-step h end None xs = refl
-  aired-step h (send x text) None xs = refl
-  aired-step h start (Some e) xs = refl
-  aired-step h end (Some e) xs = refl
-  aired-step h (send x text) (Some e) xs = refl
+  aired_step : (h : List Event) (c : Call) (o : Option Refusal) (xs : List Aired)
+      → reverse_aux (aired_back h) (left o (puts_out (vars_of h) c xs) xs) ≡ reverse_aux (aired_back (left o (event h c ∷ h) h)) xs
+  unfolding aired_back
+  aired_step h start None xs = refl
+  aired_step h end None xs = refl
+  aired_step h (send x text) None xs = refl
+  aired_step h start (Some e) xs = refl
+  aired_step h end (Some e) xs = refl
+  aired_step h (send x text) (Some e) xs = refl
 
-  aired-from : (ms : List Made) (h : List Event) → reverse_aux (aired-back h) (aired m (vars-of h) ms) ≡ aired-by (history-on m h ms)
-  unfolding aired history-on later
-  aired-from [] h = refl
-  aired-from (a ∷ ms) h =
-      ap (λ o. reverse_aux (aired-back h) (left o (puts-out (vars-of h) a.call (aired m (call_step m (vars-of h) a) ms)) (aired m (call_step m (vars-of h) a) ms))) (same-refusal h a.call a.room)
-      ∙ aired-step h a.call (refusal-on m h a.call a.room) (aired m (call_step m (vars-of h) a) ms)
-      ∙ ap (λ s. reverse_aux (aired-back (later h a)) (aired m s ms)) (vars-step h a)
-      ∙ aired-from ms (later h a)
+  aired_from : (ms : List Made) (h : List Event) → reverse_aux (aired_back h) (aired m (vars_of h) ms) ≡ aired_by (history_on m h ms)
+  unfolding aired history_on later
+  aired_from [] h = refl
+  aired_from (a ∷ ms) h =
+      ap (λ o. reverse_aux (aired_back h) (left o (puts_out (vars_of h) a.call (aired m (call_step m (vars_of h) a) ms)) (aired m (call_step m (vars_of h) a) ms))) (same_refusal h a.call a.room)
+      ∙ aired_step h a.call (refusal_on m h a.call a.room) (aired m (call_step m (vars_of h) a) ms)
+      ∙ ap (λ s. reverse_aux (aired_back (later h a)) (aired m s ms)) (vars_step h a)
+      ∙ aired_from ms (later h a)
 
   -- where labels fit and buffers are large enough
-  refusal-ample : (h : List Event) (c : Call) (room : ℕ) → Enough m c room → refusal-on m h c room ≡ refusal h c
-  refusal-ample h start room e = refl
-  refusal-ample h end room e = refl
-  refusal-ample h (send x text) room e =
+  refusal_ample : (h : List Event) (c : Call) (room : ℕ) → Enough m c room → refusal_on m h c room ≡ refusal h c
+  refusal_ample h start room e = refl
+  refusal_ample h end room e = refl
+  refusal_ample h (send x text) room e =
       ap (λ b. cond (not b) (Some LabelDoesNotFit) (cond (not (matches x.outline text)) (Some OtherText) (cond (ltb room (21 * m.writing.count x.outline)) (Some SmallBuffer) None))) e.0
-      ∙ room-enough (matches x.outline text) room (21 * m.writing.count x.outline) e.1
+      ∙ room_enough (matches x.outline text) room (21 * m.writing.count x.outline) e.1
 
-  pub refusals-ample : (ms : List Made) (h : List Event) → Ample m ms → refusals-on m h ms ≡ refusals h (calls ms)
-  unfolding refusals-on refusals later
-  refusals-ample [] h e = refl
-  refusals-ample (a ∷ ms) h e =
-      ap (λ os. refusal-on m h a.call a.room ∷ os) (refusals-ample ms (later h a) e.1)
-      ∙ ap (λ o. o ∷ refusals (left o (event h a.call ∷ h) h) (calls ms)) (refusal-ample h a.call a.room e.0)
+  pub refusals_ample : (ms : List Made) (h : List Event) → Ample m ms → refusals_on m h ms ≡ refusals h (calls ms)
+  unfolding refusals_on refusals later
+  refusals_ample [] h e = refl
+  refusals_ample (a ∷ ms) h e =
+      ap (λ os. refusal_on m h a.call a.room ∷ os) (refusals_ample ms (later h a) e.1)
+      ∙ ap (λ o. o ∷ refusals (left o (event h a.call ∷ h) h) (calls ms)) (refusal_ample h a.call a.room e.0)
 
-  pub history-ample : (ms : List Made) (h : List Event) → Ample m ms → history-on m h ms ≡ history h (calls ms)
-  unfolding history-on history later
-  history-ample [] h e = refl
-  history-ample (a ∷ ms) h e =
-      history-ample ms (later h a) e.1
-      ∙ ap (λ o. history (left o (event h a.call ∷ h) h) (calls ms)) (refusal-ample h a.call a.room e.0)
+  pub history_ample : (ms : List Made) (h : List Event) → Ample m ms → history_on m h ms ≡ history h (calls ms)
+  unfolding history_on history later
+  history_ample [] h e = refl
+  history_ample (a ∷ ms) h e =
+      history_ample ms (later h a) e.1
+      ∙ ap (λ o. history (left o (event h a.call ∷ h) h) (calls ms)) (refusal_ample h a.call a.room e.0)
 
-  new_told : new-vars ≡ vars-of []
-  unfolding only behind-label labels-back odd
+  new_told : new_vars ≡ vars_of []
+  unfolding only behind_label labels_back odd
   new_told = refl
 
-  pub replies-new : (ms : List Made) → replies m new-vars ms ≡ refusals-on m [] ms
-  replies-new ms = ap (λ s. replies m s ms) new_told ∙ replies-told ms []
+  pub replies_new : (ms : List Made) → replies m new_vars ms ≡ refusals_on m [] ms
+  replies_new ms = ap (λ s. replies m s ms) new_told ∙ replies_told ms []
 
-  pub vars-new : (ms : List Made) → vars-after m new-vars ms ≡ vars-of (history-on m [] ms)
-  vars-new ms = ap (λ s. vars-after m s ms) new_told ∙ vars-told ms []
+  pub vars_new : (ms : List Made) → vars_after m new_vars ms ≡ vars_of (history_on m [] ms)
+  vars_new ms = ap (λ s. vars_after m s ms) new_told ∙ vars_told ms []
 
-  pub aired-new : (ms : List Made) → aired m new-vars ms ≡ aired-by (history-on m [] ms)
-  unfolding aired-back
-  aired-new ms = ap (λ s. aired m s ms) new_told ∙ aired-from ms []
+  pub aired_new : (ms : List Made) → aired m new_vars ms ≡ aired_by (history_on m [] ms)
+  unfolding aired_back
+  aired_new ms = ap (λ s. aired m s ms) new_told ∙ aired_from ms []
 
 -- and its labels are the sent ones
-labels-turned : (xs ys : List Aired) → labels (reverse_aux xs ys) ≡ reverse_aux (labels xs) (labels ys)
-labels-turned [] ys = refl
-labels-turned (x ∷ xs) ys = labels-turned xs (x ∷ ys)
+labels_turned : (xs ys : List Aired) → labels (reverse_aux xs ys) ≡ reverse_aux (labels xs) (labels ys)
+labels_turned [] ys = refl
+labels_turned (x ∷ xs) ys = labels_turned xs (x ∷ ys)
 
-back-labels : (h : List Event) → labels (aired-back h) ≡ labels-back h
-unfolding aired-back labels-back
-back-labels [] = refl
-back-labels (started ∷ h) = back-labels h
-back-labels (ended ∷ h) = back-labels h
-back-labels (sent l ∷ h) = ap (λ ls. l ∷ ls) (back-labels h)
+back_labels : (h : List Event) → labels (aired_back h) ≡ labels_back h
+unfolding aired_back labels_back
+back_labels [] = refl
+back_labels (started ∷ h) = back_labels h
+back_labels (ended ∷ h) = back_labels h
+back_labels (sent l ∷ h) = ap (λ ls. l ∷ ls) (back_labels h)
 
-pub labels-by : (h : List Event) → labels (aired-by h) ≡ sent-labels h
-labels-by h = labels-turned (aired-back h) [] ∙ ap reverse (back-labels h)
+pub labels_by : (h : List Event) → labels (aired_by h) ≡ sent_labels h
+labels_by h = labels_turned (aired_back h) [] ∙ ap reverse (back_labels h)

@@ -1,7 +1,7 @@
 -- What is asked of a station.
 use Rattle.std.specs.Prelude.{◌≡◌, ℕ, ◌≤◌, true, List, map}
 use Rattle.label.specs.declared.sealed.Sealed.{Sealed}
-use Rattle.label.specs.Drafts.{sealed-outline}
+use Rattle.label.specs.Drafts.{sealed_outline}
 use Rattle.label.specs.Label.{Outline}
 use Rattle.label.specs.Lawful.{sealable}
 
@@ -13,7 +13,7 @@ pub record Ready : Type 0 where
   pub right : sealable outline.len outline.tags ≡ true
 
 abbrev pub ready : Sealed → Ready
-ready s = record { outline = sealed-outline s; some = s.some; short = s.short; right = s.right }
+ready s = record { outline = sealed_outline s; some = s.some; short = s.short; right = s.right }
 
 -- an item start, an item end, or a label to be sent over a text
 pub data Call : Type 0 where

@@ -1,7 +1,7 @@
 -- What a display holds, told from the labels that were sent and from nothing else.
 use Rattle.std.specs.Prelude.{◌≡◌, ℕ, ◌≤◌, Bool, true, false, ◌⊎◌, List, [], ◌∷◌, ◌++◌, length, Some, None, Option}
-use Rattle.label.specs.Classes.{item-class}
-use Rattle.label.specs.Label.{Label, marked, item-deletion}
+use Rattle.label.specs.Classes.{item_class}
+use Rattle.label.specs.Label.{Label, marked, item_deletion}
 use Rattle.label.specs.Tags.{deletion}
 
 -- no label of the list names the class
@@ -33,12 +33,12 @@ pub record RunningItem (ls row : List Label) : Type 0 where
 
 abbrev pub NoItemDeletion : List Label → Type 0
 NoItemDeletion [] = Unit {0}
-NoItemDeletion (l ∷ ls) = (item-deletion l ≡ false) × NoItemDeletion ls
+NoItemDeletion (l ∷ ls) = (item_deletion l ≡ false) × NoItemDeletion ls
 
 -- the labels that count: from the latest with an Item deletion on, that one included; all, if none has one
 abbrev pub FromDeletion : List Label → List Label → Type 0
 FromDeletion before [] = before ≡ []
-FromDeletion before (l ∷ ls) = ((item-deletion l ≡ true) ⊎ (before ≡ [])) × NoItemDeletion ls
+FromDeletion before (l ∷ ls) = ((item_deletion l ≡ true) ⊎ (before ≡ [])) × NoItemDeletion ls
 
 pub record Counted (row counted : List Label) : Type 0 where
   pub before : List Label
@@ -55,8 +55,8 @@ pub record HoldsOfItem (c : ℕ) (ls : List Label) (held : List ℕ) : Type 0 wh
 
 -- what a class holds after the labels
 pub record Holds (c : ℕ) (ls : List Label) (held : List ℕ) : Type 0 where
-  pub outside : item-class c ≡ false → HoldsLast c ls held
-  pub inside : item-class c ≡ true → HoldsOfItem c ls held
+  pub outside : item_class c ≡ false → HoldsLast c ls held
+  pub inside : item_class c ≡ true → HoldsOfItem c ls held
 
 -- some label of the list marks exactly this part for the class
 pub record Marks (c : ℕ) (ls : List Label) (p : List ℕ) : Type 0 where

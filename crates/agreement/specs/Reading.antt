@@ -6,7 +6,7 @@ use Rattle.label.specs.declared.refusal.Refusal.TheVariants.{UnreadableClass, Sh
 use Rattle.agreement.specs.Rules.{Table}
 
 -- why a class is not read into a buffer of so many bytes
-abbrev pub read-refusal : Table → ℕ → ℕ → Option Refusal
-read-refusal d c room =
+abbrev pub read_refusal : Table → ℕ → ℕ → Option Refusal
+read_refusal d c room =
     cond (silent c) (Some UnreadableClass)
     (cond (nat_lt room (length (d.row c))) (Some ShortBuffer) None)

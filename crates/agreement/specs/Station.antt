@@ -15,39 +15,39 @@ pub record Vars : Type 0 where
   pub item : ItemBits
   pub since : Bool
 
-abbrev pub new-vars : Vars
-new-vars = record { toggle = false; item = record { toggle = false; running = false }; since = false }
+abbrev pub new_vars : Vars
+new_vars = record { toggle = false; item = record { toggle = false; running = false }; since = false }
 
 -- why a label is not sent, the smallest number that applies; each frame takes 21 bytes of the buffer
-abbrev pub send-refusal : Writing → Outline → List ℕ → ℕ → Option Refusal
-send-refusal w o text room =
+abbrev pub send_refusal : Writing → Outline → List ℕ → ℕ → Option Refusal
+send_refusal w o text room =
     cond (not (w.fits o)) (Some LabelDoesNotFit)
     (cond (not (matches o text)) (Some OtherText)
     (cond (nat_lt room (21 * w.count o)) (Some SmallBuffer) None))
 
-abbrev pub call-refusal : {S : Type 0} → Meaning S → Vars → Call → ℕ → Option Refusal
-call-refusal m s start room = cond s.since (Some ItemStarted) None
-call-refusal m s end room = cond s.item.running None (Some NoItemRuns)
-call-refusal m s (send x text) room = send-refusal m.writing x.outline text room
+abbrev pub call_refusal : {S : Type 0} → Meaning S → Vars → Call → ℕ → Option Refusal
+call_refusal m s start room = cond s.since (Some ItemStarted) None
+call_refusal m s end room = cond s.item.running None (Some NoItemRuns)
+call_refusal m s (send x text) room = send_refusal m.writing x.outline text room
 
 -- what an accepted call leaves
-abbrev pub call-vars : Vars → Call → Vars
-call-vars s start = record { toggle = s.toggle; item = record { toggle = not s.item.toggle; running = true }; since = true }
-call-vars s end = record { toggle = s.toggle; item = record { toggle = s.item.toggle; running = false }; since = s.since }
-call-vars s (send x text) = record { toggle = not s.toggle; item = s.item; since = false }
+abbrev pub call_vars : Vars → Call → Vars
+call_vars s start = record { toggle = s.toggle; item = record { toggle = not s.item.toggle; running = true }; since = true }
+call_vars s end = record { toggle = s.toggle; item = record { toggle = s.item.toggle; running = false }; since = s.since }
+call_vars s (send x text) = record { toggle = not s.toggle; item = s.item; since = false }
 
 abbrev pub call_step : {S : Type 0} → Meaning S → Vars → Made → Vars
-call_step m s a = left (call-refusal m s a.call a.room) (call-vars s a.call) s
+call_step m s a = left (call_refusal m s a.call a.room) (call_vars s a.call) s
 
 -- what a station on a carrier answers to the calls
 unfoldable pub replies : {S : Type 0} → Meaning S → Vars → List Made → List (Option Refusal)
 replies m s [] = []
-replies m s (a ∷ ms) = call-refusal m s a.call a.room ∷ replies m (call_step m s a) ms
+replies m s (a ∷ ms) = call_refusal m s a.call a.room ∷ replies m (call_step m s a) ms
 
 -- its variables after them
-unfoldable pub vars-after : {S : Type 0} → Meaning S → Vars → List Made → Vars
-vars-after m s [] = s
-vars-after m s (a ∷ ms) = vars-after m (call_step m s a) ms
+unfoldable pub vars_after : {S : Type 0} → Meaning S → Vars → List Made → Vars
+vars_after m s [] = s
+vars_after m s (a ∷ ms) = vars_after m (call_step m s a) ms
 
 -- a label on the air, with its message toggle
 pub record Aired : Type 0 where
@@ -58,12 +58,12 @@ abbrev pub labels : List Aired → List Label
 labels xs = map (λ x. x.label) xs
 
 -- what an accepted call puts on the air, before what comes later
-abbrev pub puts-out : Vars → Call → List Aired → List Aired
-puts-out s start xs = xs
-puts-out s end xs = xs
-puts-out s (send x text) xs = record { label = label_of x.outline s.item text; toggle = s.toggle } ∷ xs
+abbrev pub puts_out : Vars → Call → List Aired → List Aired
+puts_out s start xs = xs
+puts_out s end xs = xs
+puts_out s (send x text) xs = record { label = label_of x.outline s.item text; toggle = s.toggle } ∷ xs
 
 -- the labels that it sends, one after another
 unfoldable pub aired : {S : Type 0} → Meaning S → Vars → List Made → List Aired
 aired m s [] = []
-aired m s (a ∷ ms) = left (call-refusal m s a.call a.room) (puts-out s a.call (aired m (call_step m s a) ms)) (aired m (call_step m s a) ms)
+aired m s (a ∷ ms) = left (call_refusal m s a.call a.room) (puts_out s a.call (aired m (call_step m s a) ms)) (aired m (call_step m s a) ms)

@@ -2,7 +2,7 @@
 use Rattle.std.specs.Prelude.{◌≡◌, true, ◌↔◌, List, [], ◌∷◌, ◌++◌, Some, None}
 use Rattle.label.specs.declared.refusal.Refusal.TheVariants.{ItemStarted, NoItemRuns}
 use Rattle.agreement.specs.Calls.{start, end}
-use Rattle.agreement.specs.History.{Event, started, ended, sent, item-bits, refusal}
+use Rattle.agreement.specs.History.{Event, started, ended, sent, item_bits, refusal}
 
 abbrev pub NoLabel : List Event → Type 0
 NoLabel [] = Unit {0}
@@ -32,11 +32,11 @@ pub record LastIsStart (h : List Event) : Type 0 where
 
 -- when an item start and an item end are done or refused, and when the running bit is 1
 pub record InWords (h : List Event) : Type 0 where
-  pub start-refused : StartSinceLabel h → refusal h start ≡ Some ItemStarted
-  pub start-done : (StartSinceLabel h → ⊥) → refusal h start ≡ None
-  pub end-done : LastIsStart h → refusal h end ≡ None
+  pub start_refused : StartSinceLabel h → refusal h start ≡ Some ItemStarted
+  pub start_done : (StartSinceLabel h → ⊥) → refusal h start ≡ None
+  pub end_done : LastIsStart h → refusal h end ≡ None
   pub end_refused : (LastIsStart h → ⊥) → refusal h end ≡ Some NoItemRuns
-  pub running : ((item-bits h).running ≡ true) ↔ LastIsStart h
+  pub running : ((item_bits h).running ≡ true) ↔ LastIsStart h
 
 abbrev pub HistoryInWords : Type 0
 HistoryInWords = (h : List Event) → InWords h

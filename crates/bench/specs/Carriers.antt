@@ -2,14 +2,14 @@
 use Rattle.std.specs.Prelude.{ℕ, false, List, codes}
 use Rattle.label.specs.declared.tag.ItemBits.{ItemBits}
 use Rattle.carrier.specs.Writing.{Writing}
-use Rattle.fm.specs.Frames.{fm-writing}
-use Rattle.dab.specs.Frames.{dab-writing}
+use Rattle.fm.specs.Frames.{fm_writing}
+use Rattle.dab.specs.Frames.{dab_writing}
 use Rattle.bench.specs.declared.carriers.Named.{Named}
 use Rattle.bench.specs.declared.carriers.Named.TheVariants.{Fm, Dab}
 
-abbrev pub writing-of : Named → Writing
-writing-of Fm = fm-writing
-writing-of Dab = dab-writing
+abbrev pub writing_of : Named → Writing
+writing_of Fm = fm_writing
+writing_of Dab = dab_writing
 
 -- both item bits 0
 abbrev pub no_item : ItemBits

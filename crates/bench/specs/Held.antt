@@ -1,6 +1,6 @@
 -- The label on the bench, and the buffers that calls are handed.
 use Rattle.std.specs.Prelude.{ℕ, List, replicate, vec_items}
-use Rattle.label.specs.Drafts.{draft-outline, sealed-outline}
+use Rattle.label.specs.Drafts.{draft_outline, sealed_outline}
 use Rattle.label.specs.Label.{Outline}
 use Rattle.bench.specs.declared.current.Current.{Current}
 use Rattle.bench.specs.declared.current.Current.TheVariants.{Nothing, Drafted, Closed}
@@ -13,8 +13,8 @@ pub data Held : Type 0 where
 
 abbrev pub held : Current → Held
 held Nothing = nothing
-held (Drafted d t) = drafted (draft-outline d) (vec_items t)
-held (Closed s t) = closed (sealed-outline s) (vec_items t)
+held (Drafted d t) = drafted (draft_outline d) (vec_items t)
+held (Closed s t) = closed (sealed_outline s) (vec_items t)
 
 -- a buffer as a call is handed it: 0xEE throughout
 abbrev pub fresh : ℕ → List ℕ

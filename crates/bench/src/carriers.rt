@@ -1,8 +1,8 @@
 ghost use Rattle.std.specs.Prelude.{◌≡◌, ◌++◌, length, drop, MatchResult, ◌≢◌};
-ghost use Rattle.label.specs.Drafts.{sealed-outline, done, left};
+ghost use Rattle.label.specs.Drafts.{sealed_outline, done, left};
 ghost use Rattle.label.specs.Label.{label_of};
-ghost use Rattle.carrier.specs.Writing.{place, write-refusal};
-ghost use Rattle.bench.specs.Carriers.{writing-of, no_item};
+ghost use Rattle.carrier.specs.Writing.{place, write_refusal};
+ghost use Rattle.bench.specs.Carriers.{writing_of, no_item};
 ghost use Rattle.script.specs.declared.fault.Fault.TheVariants.{Wrong};
 ghost use Rattle.bench.specs.Carriers.{name_of};
 
@@ -46,7 +46,7 @@ impl Named {
     }
 
     pub fn fits(self, label: &Sealed) -> bool
-        ensures { result ≡ (writing-of self).fits (sealed-outline label.now) }
+        ensures { result ≡ (writing_of self).fits (sealed_outline label.now) }
     {
         match self {
             Named::Fm => Fm::fits(label),
@@ -55,7 +55,7 @@ impl Named {
     }
 
     pub fn count(self, label: &Sealed) -> usize
-        ensures { result ≡ (writing-of self).count (sealed-outline label.now) }
+        ensures { result ≡ (writing_of self).count (sealed_outline label.now) }
     {
         match self {
             Named::Fm => Fm::count(label),
@@ -71,8 +71,8 @@ impl Named {
         frame: Wanted,
         space: &mut [u8],
     ) -> Result<(), Refusal>
-        ensures reply { result ≡ done (write-refusal (writing-of self) (sealed-outline label.now) text.now frame.number (length space.old)) tt }
-        ensures space { space.new ≡ left (write-refusal (writing-of self) (sealed-outline label.now) text.now frame.number (length space.old)) (place ((writing-of self).frame (label_of (sealed-outline label.now) no_item text.now) frame.toggle frame.service frame.number) ++ drop 21 space.old) space.old }
+        ensures reply { result ≡ done (write_refusal (writing_of self) (sealed_outline label.now) text.now frame.number (length space.old)) tt }
+        ensures space { space.new ≡ left (write_refusal (writing_of self) (sealed_outline label.now) text.now frame.number (length space.old)) (place ((writing_of self).frame (label_of (sealed_outline label.now) no_item text.now) frame.toggle frame.service frame.number) ++ drop 21 space.old) space.old }
     {
         match self {
             Named::Fm => Fm::write(

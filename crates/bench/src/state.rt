@@ -1,8 +1,8 @@
 ghost use Rattle.std.specs.Prelude.{◌≡◌};
-ghost use Rattle.label.specs.Drafts.{sealed-outline, opening-refusal, done};
+ghost use Rattle.label.specs.Drafts.{sealed_outline, opening_refusal, done};
 ghost use Rattle.script.specs.declared.reply.Reply.TheVariants.{Call};
 ghost use Rattle.bench.specs.Held.{held};
-ghost use Rattle.bench.specs.State.{bench-of, new-bench, with-label, Obeys, opened, tag-reply, after_tag, seal-reply, after-seal, reopen-reply, after-reopen, fits-reply, count-reply, Writes, WriteReply};
+ghost use Rattle.bench.specs.State.{bench_of, new_bench, with_label, Obeys, opened, tag_reply, after_tag, seal_reply, after_seal, reopen_reply, after_reopen, fits_reply, count_reply, Writes, WriteReply};
 
 use crate::carriers::{Named, Wanted};
 use crate::command::{Command, Writing};
@@ -34,7 +34,7 @@ fn write_frame(
     frame: Wanted,
     size: usize,
 ) -> Result<Reply, Fault>
-    ensures { Writes carrier (sealed-outline label.now) text.now frame size result }
+    ensures { Writes carrier (sealed_outline label.now) text.now frame size result }
 {
     let mut space = buffer(heap, size)?;
     let call = carrier.write(label, text, frame, space.as_mut_slice());
@@ -43,7 +43,7 @@ fn write_frame(
 
 impl Bench {
     pub fn new() -> Bench
-        ensures { bench-of result ≡ new-bench }
+        ensures { bench_of result ≡ new_bench }
     {
         Bench {
             label: Current::Nothing,
@@ -54,7 +54,7 @@ impl Bench {
 
     // Carries out a command. A fault changes nothing.
     pub fn obey(&mut self, heap: Global, command: Command) -> Result<Reply, Fault>
-        ensures { Obeys (bench-of self.old) command result (bench-of self.new) }
+        ensures { Obeys (bench_of self.old) command result (bench_of self.new) }
     {
         match command {
             Command::Open(text) => Ok(self.open(text)),
@@ -70,8 +70,8 @@ impl Bench {
     }
 
     fn open(&mut self, text: Vec<u8>) -> Reply
-        ensures reply { result ≡ Call (done (opening-refusal text.items) tt) }
-        ensures after { bench-of self.new ≡ with-label (bench-of self.old) (opened (held self.old.label) text.items) }
+        ensures reply { result ≡ Call (done (opening_refusal text.items) tt) }
+        ensures after { bench_of self.new ≡ with_label (bench_of self.old) (opened (held self.old.label) text.items) }
     {
         match Draft::open(text.as_slice()) {
             Ok(draft) => {
@@ -83,8 +83,8 @@ impl Bench {
     }
 
     fn tag(&mut self, tag: Tag) -> Result<Reply, Fault>
-        ensures reply { result ≡ tag-reply (held self.old.label) tag }
-        ensures after { bench-of self.new ≡ with-label (bench-of self.old) (after_tag (held self.old.label) tag) }
+        ensures reply { result ≡ tag_reply (held self.old.label) tag }
+        ensures after { bench_of self.new ≡ with_label (bench_of self.old) (after_tag (held self.old.label) tag) }
     {
         match &mut self.label {
             Current::Drafted(draft, _) => Ok(Reply::Call(draft.tag(tag))),
@@ -93,8 +93,8 @@ impl Bench {
     }
 
     fn seal(&mut self) -> Result<Reply, Fault>
-        ensures reply { result ≡ seal-reply (held self.old.label) }
-        ensures after { bench-of self.new ≡ with-label (bench-of self.old) (after-seal (held self.old.label)) }
+        ensures reply { result ≡ seal_reply (held self.old.label) }
+        ensures after { bench_of self.new ≡ with_label (bench_of self.old) (after_seal (held self.old.label)) }
     {
         match std::mem::replace(&mut self.label, Current::Nothing) {
             Current::Drafted(draft, text) => {
@@ -109,8 +109,8 @@ impl Bench {
     }
 
     fn reopen(&mut self) -> Result<Reply, Fault>
-        ensures reply { result ≡ reopen-reply (held self.old.label) }
-        ensures after { bench-of self.new ≡ with-label (bench-of self.old) (after-reopen (held self.old.label)) }
+        ensures reply { result ≡ reopen_reply (held self.old.label) }
+        ensures after { bench_of self.new ≡ with_label (bench_of self.old) (after_reopen (held self.old.label)) }
     {
         match std::mem::replace(&mut self.label, Current::Nothing) {
             Current::Closed(label, text) => {
@@ -125,7 +125,7 @@ impl Bench {
     }
 
     fn fits(&self, carrier: Named) -> Result<Reply, Fault>
-        ensures { result ≡ fits-reply (held self.now.label) carrier }
+        ensures { result ≡ fits_reply (held self.now.label) carrier }
     {
         match &self.label {
             Current::Closed(label, _) => Ok(Reply::Fits(carrier.fits(label))),
@@ -134,7 +134,7 @@ impl Bench {
     }
 
     fn count(&self, carrier: Named) -> Result<Reply, Fault>
-        ensures { result ≡ count-reply (held self.now.label) carrier }
+        ensures { result ≡ count_reply (held self.now.label) carrier }
     {
         match &self.label {
             Current::Closed(label, _) if carrier.fits(label) => {

@@ -8,15 +8,15 @@ pub record AnswerCase : Type 1 where
   pub number : ℕ
   pub after : {S : Type 0} → S → S → Type 0
 
-abbrev pub unchanged : {S : Type 0} → S → S → Type 0
-unchanged s t = t ≡ s
+abbrev pub Unchanged : {S : Type 0} → S → S → Type 0
+Unchanged s t = t ≡ s
 
-abbrev pub any-state : {S : Type 0} → S → S → Type 0
-any-state s t = Unit {0}
+abbrev pub AnyState : {S : Type 0} → S → S → Type 0
+AnyState s t = Unit {0}
 
-abbrev pub answer-case : Answer → AnswerCase
-answer-case PassedOver = record { number = 0; after = unchanged }
-answer-case Kept = record { number = 1; after = any-state }
-answer-case Complete = record { number = 2; after = any-state }
-answer-case Again = record { number = 3; after = unchanged }
-answer-case Dropped = record { number = 4; after = any-state }
+abbrev pub answer_case : Answer → AnswerCase
+answer_case PassedOver = record { number = 0; after = Unchanged }
+answer_case Kept = record { number = 1; after = AnyState }
+answer_case Complete = record { number = 2; after = AnyState }
+answer_case Again = record { number = 3; after = Unchanged }
+answer_case Dropped = record { number = 4; after = AnyState }

@@ -13,14 +13,14 @@ field w v = record { width = w; value = v }
 abbrev pub flag : Bool → Field
 flag b = field 1 (cond b 1 0)
 
-abbrev pub with-fields : ℕ → List Field → ℕ
-with-fields n [] = n
-with-fields n (f ∷ fs) = with-fields (n * 2 ^ f.width + f.value) fs
+abbrev pub with_fields : ℕ → List Field → ℕ
+with_fields n [] = n
+with_fields n (f ∷ fs) = with_fields (n * 2 ^ f.width + f.value) fs
 
 -- the fields as one number
 abbrev pub word : List Field → ℕ
 word [] = 0
-word (f ∷ fs) = with-fields f.value fs
+word (f ∷ fs) = with_fields f.value fs
 
 -- the low k bytes of a number, the high one first
 abbrev pub octets : ℕ → ℕ → List ℕ

@@ -6,25 +6,25 @@ use Rattle.label.specs.Lawful.{sealable}
 use Rattle.label.specs.Lists.{any}
 use Rattle.carrier.specs.declared.answer.Answer.{Answer}
 use Rattle.carrier.specs.declared.answer.Answer.TheVariants.{PassedOver, Kept, Complete, Again, Dropped}
-use Rattle.carrier.specs.Answers.{answer-case}
+use Rattle.carrier.specs.Answers.{answer_case}
 use Rattle.carrier.specs.Meaning.{Meaning, Outcome, answered, refused, next}
 
-abbrev pub outline-of : Label → Outline
-outline-of l = record { len = length l.text; tags = l.tags }
+abbrev pub outline_of : Label → Outline
+outline_of l = record { len = length l.text; tags = l.tags }
 
-abbrev pub frames-of : {S : Type 0} → Meaning S → Label → ℕ
-frames-of m l = m.writing.count (outline-of l)
+abbrev pub frames_of : {S : Type 0} → Meaning S → Label → ℕ
+frames_of m l = m.writing.count (outline_of l)
 
 -- the label that an answer completes
-abbrev pub completed-at : Answer → Option Label → List (Option Label)
-completed-at PassedOver x = []
-completed-at Kept x = []
-completed-at Complete x = x ∷ []
-completed-at Again x = []
-completed-at Dropped x = []
+abbrev pub completed_at : Answer → Option Label → List (Option Label)
+completed_at PassedOver x = []
+completed_at Kept x = []
+completed_at Complete x = x ∷ []
+completed_at Again x = []
+completed_at Dropped x = []
 
 abbrev pub completed : {S : Type 0} → Meaning S → Outcome S → List (Option Label)
-completed m (answered a t) = completed-at a (m.told t)
+completed m (answered a t) = completed_at a (m.told t)
 completed m (refused e) = []
 
 -- the state after a row of frames
@@ -75,7 +75,7 @@ heard m l t v ns = map (m.writing.frame l t v) ns
 
 -- a label that fits, over a text that a draft takes, with lawful tags, none of them silent
 pub record Sendable {S : Type 0} (m : Meaning S) (l : Label) : Type 0 where
-  pub fits : m.writing.fits (outline-of l) ≡ true
+  pub fits : m.writing.fits (outline_of l) ≡ true
   pub some : 1 ≤ length l.text
   pub short : length l.text ≤ 128
   pub clean : any control l.text ≡ false
@@ -85,16 +85,16 @@ pub record Sendable {S : Type 0} (m : Meaning S) (l : Label) : Type 0 where
 pub record Hears {S : Type 0} (m : Meaning S) (l : Label) (t : Bool) (v : ℕ) (s : S) (ns : List ℕ) : Type 0 where
   pub stands : m.standing (after m s (heard m l t v ns)) ≡ Some t
   pub once : AtMostOnce l (completions m s (heard m l t v ns))
-  pub full : Full (frames-of m l) ns → Once l (completions m s (heard m l t v ns)) × IsLabel l (m.told (after m s (heard m l t v ns)))
+  pub full : Full (frames_of m l) ns → Once l (completions m s (heard m l t v ns)) × IsLabel l (m.told (after m s (heard m l t v ns)))
 
 -- what each carrier shows
 pub record Lawful {S : Type 0} (m : Meaning S) : Type 0 where
   -- a label has at least one frame, each of 1 to 20 bytes
   pub some : (o : Outline) → 1 ≤ m.writing.count o
-  pub sized : (l : Label) (t : Bool) (v n : ℕ) → n < frames-of m l → Sendable m l → (1 ≤ length (m.writing.frame l t v n)) × (length (m.writing.frame l t v n) ≤ 20)
+  pub sized : (l : Label) (t : Bool) (v n : ℕ) → n < frames_of m l → Sendable m l → (1 ≤ length (m.writing.frame l t v n)) × (length (m.writing.frame l t v n) ≤ 20)
   -- answers 0 and 3 leave the state
-  pub follows : (s t : S) (f : List ℕ) (a : Answer) → m.step s f ≡ answered a t → (answer-case a).after s t
+  pub follows : (s t : S) (f : List ℕ) (a : Answer) → m.step s f ≡ answered a t → (answer_case a).after s t
   -- answer 2 comes with a label
   pub tells : (s t : S) (f : List ℕ) → m.step s f ≡ answered Complete t → is_some (m.told t) ≡ true
   pub new : m.standing m.fresh ≡ None
-  pub hears : (l : Label) (t : Bool) (v : ℕ) (s : S) (ns : List ℕ) → Sendable m l → Begins m t s → Numbers (frames-of m l) (0 ∷ ns) → Hears m l t v s (0 ∷ ns)
+  pub hears : (l : Label) (t : Bool) (v : ℕ) (s : S) (ns : List ℕ) → Sendable m l → Begins m t s → Numbers (frames_of m l) (0 ∷ ns) → Hears m l t v s (0 ∷ ns)

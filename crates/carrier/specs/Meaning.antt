@@ -38,13 +38,13 @@ abbrev pub told_text : Option Label → List ℕ
 told_text None = []
 told_text (Some l) = l.text
 
-abbrev pub told-tags : Option Label → List Tag
-told-tags None = []
-told-tags (Some l) = l.tags
+abbrev pub told_tags : Option Label → List Tag
+told_tags None = []
+told_tags (Some l) = l.tags
 
-abbrev pub told-item : Option Label → ItemBits
-told-item None = record { toggle = false; running = false }
-told-item (Some l) = l.item
+abbrev pub told_item : Option Label → ItemBits
+told_item None = record { toggle = false; running = false }
+told_item (Some l) = l.item
 
 -- tags as a carrier tells them: at most four, none silent, lawful for the text
 abbrev pub Plain : List ℕ → List Tag → Type 0

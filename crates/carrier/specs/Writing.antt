@@ -19,12 +19,12 @@ abbrev pub place : List ℕ → List ℕ
 place f = length f ∷ (f ++ replicate (20 - length f) 0)
 
 -- why a frame is not written, the smallest number that applies: by whether the label fits and how many frames it has
-abbrev pub refusal-by : Bool → ℕ → Outline → List ℕ → ℕ → ℕ → Option Refusal
-refusal-by fits count o text number room =
+abbrev pub refusal_by : Bool → ℕ → Outline → List ℕ → ℕ → ℕ → Option Refusal
+refusal_by fits count o text number room =
     cond (not fits) (Some LabelDoesNotFit)
     (cond (not (matches o text)) (Some OtherText)
     (cond (nat_lt room 21) (Some SmallBuffer)
     (cond (nat_le count number) (Some NoSuchFrame) None)))
 
-abbrev pub write-refusal : Writing → Outline → List ℕ → ℕ → ℕ → Option Refusal
-write-refusal w o text number room = refusal-by (w.fits o) (w.count o) o text number room
+abbrev pub write_refusal : Writing → Outline → List ℕ → ℕ → ℕ → Option Refusal
+write_refusal w o text number room = refusal_by (w.fits o) (w.count o) o text number room

@@ -1,5 +1,5 @@
 ghost use Rattle.std.specs.Prelude.{◌≡◌};
-ghost use Rattle.carrier.specs.Answers.{answer-case};
+ghost use Rattle.carrier.specs.Answers.{answer_case};
 
 // What taking a frame answers.
 #[derive(Clone, Copy)]
@@ -14,7 +14,7 @@ pub enum Answer {
 impl Answer {
     // The number by which users know the answer.
     pub fn number(self) -> u8
-        ensures { result ≡ (answer-case self).number }
+        ensures { result ≡ (answer_case self).number }
     {
         match self {
             Answer::PassedOver => 0,

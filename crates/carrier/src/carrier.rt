@@ -1,10 +1,10 @@
 ghost use Rattle.std.specs.Prelude.{◌≡◌, ◌≤◌, ◌++◌, length, drop, is_some};
-ghost use Rattle.label.specs.Drafts.{sealed-outline, done, left};
+ghost use Rattle.label.specs.Drafts.{sealed_outline, done, left};
 ghost use Rattle.label.specs.Label.{label_of};
-ghost use Rattle.label.specs.Refusals.{Own, frame-writing};
+ghost use Rattle.label.specs.Refusals.{Own, frame_writing};
 ghost use Rattle.carrier.specs.Hearing.{Lawful};
-ghost use Rattle.carrier.specs.Meaning.{Meaning, reply, next, told_text, told-tags, told-item, Plain};
-ghost use Rattle.carrier.specs.Writing.{place, write-refusal};
+ghost use Rattle.carrier.specs.Meaning.{Meaning, reply, next, told_text, told_tags, told_item, Plain};
+ghost use Rattle.carrier.specs.Writing.{place, write_refusal};
 
 use crate::answer::Answer;
 use label::refusal::Refusal;
@@ -21,11 +21,11 @@ pub trait Carrier {
 
     // The label fits, whatever its item bits.
     fn fits(label: &Sealed) -> bool
-        ensures { result ≡ meaning.writing.fits (sealed-outline label.now) };
+        ensures { result ≡ meaning.writing.fits (sealed_outline label.now) };
 
     // How many frames the label has.
     fn count(label: &Sealed) -> usize
-        ensures { result ≡ meaning.writing.count (sealed-outline label.now) };
+        ensures { result ≡ meaning.writing.count (sealed_outline label.now) };
 
     // Writes one frame into its place, the first 21 bytes of the space: its length, the frame, zeros.
     fn write(
@@ -37,9 +37,9 @@ pub trait Carrier {
         number: usize,
         space: &mut [u8],
     ) -> Result<(), Refusal>
-        ensures reply { result ≡ done (write-refusal meaning.writing (sealed-outline label.now) text.now number (length space.old)) tt }
-        ensures own { Own frame-writing result }
-        ensures space { space.new ≡ left (write-refusal meaning.writing (sealed-outline label.now) text.now number (length space.old)) (place (meaning.writing.frame (label_of (sealed-outline label.now) item text.now) toggle service number) ++ drop 21 space.old) space.old };
+        ensures reply { result ≡ done (write_refusal meaning.writing (sealed_outline label.now) text.now number (length space.old)) tt }
+        ensures own { Own frame_writing result }
+        ensures space { space.new ≡ left (write_refusal meaning.writing (sealed_outline label.now) text.now number (length space.old)) (place (meaning.writing.frame (label_of (sealed_outline label.now) item text.now) toggle service number) ++ drop 21 space.old) space.old };
 
     fn new() -> Self
         ensures { state result ≡ meaning.fresh };
@@ -64,12 +64,12 @@ pub trait Carrier {
 
     // The complete label's tags, or none.
     fn tags(&self) -> &[Tag]
-        ensures value { result.now ≡ told-tags (meaning.told (state self.now)) }
+        ensures value { result.now ≡ told_tags (meaning.told (state self.now)) }
         ensures plain { Plain (told_text (meaning.told (state self.now))) result.now };
 
     // The complete label's item bits, or zeros.
     fn item(&self) -> ItemBits
-        ensures { result ≡ told-item (meaning.told (state self.now)) };
+        ensures { result ≡ told_item (meaning.told (state self.now)) };
 
     ghost lawful: { Lawful meaning };
 }

@@ -1,7 +1,7 @@
 ghost use Rattle.std.specs.Prelude.{◌≡◌, take};
-ghost use Rattle.label.specs.Drafts.{sealed-outline};
-ghost use Rattle.label.specs.Refusals.{OwnReason, frame-writing};
-ghost use Rattle.carrier.specs.Writing.{place, refusal-by};
+ghost use Rattle.label.specs.Drafts.{sealed_outline};
+ghost use Rattle.label.specs.Refusals.{OwnReason, frame_writing};
+ghost use Rattle.carrier.specs.Writing.{place, refusal_by};
 
 use label::refusal::Refusal;
 use label::sealed::Sealed;
@@ -18,8 +18,8 @@ pub fn why_not_write(
     number: usize,
     room: usize,
 ) -> Option<Refusal>
-    ensures own { OwnReason frame-writing result }
-    ensures value { result ≡ refusal-by fits count (sealed-outline label.now) text.now number room }
+    ensures own { OwnReason frame_writing result }
+    ensures value { result ≡ refusal_by fits count (sealed_outline label.now) text.now number room }
 {
     if !fits {
         return Some(Refusal::LabelDoesNotFit);

@@ -43,5 +43,5 @@ abbrev pub dividend : List ℕ → List Bool
 dividend bytes = added (replicate 16 true) (bits_of bytes ++ replicate 16 false)
 
 -- the check is the complement of the remainder
-abbrev pub check-of : List ℕ → ℕ
-check-of bytes = 65535 - number (remainder (dividend bytes))
+abbrev pub check_of : List ℕ → ℕ
+check_of bytes = 65535 - number (remainder (dividend bytes))

@@ -10,5 +10,5 @@ steps zero c = c
 steps (suc k) c = stepped (steps k c)
 
 -- a byte added to the eight front bits, and eight steps
-abbrev pub byte-in : ℕ → ℕ → ℕ
-byte-in c b = steps 8 (bit_xor c (b * 256))
+abbrev pub byte_in : ℕ → ℕ → ℕ
+byte_in c b = steps 8 (bit_xor c (b * 256))

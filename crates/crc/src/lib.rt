@@ -1,10 +1,10 @@
-ghost use Rattle.crc.specs.Check.{check-of, dividend, number, remainder};
-ghost use Rattle.crc.specs.Register.{byte-in, stepped};
+ghost use Rattle.crc.specs.Check.{check_of, dividend, number, remainder};
+ghost use Rattle.crc.specs.Register.{byte_in, stepped};
 ghost use Rattle.std.specs.Prelude.{◌≡◌};
 
 // The check of a frame's bytes: the complement of their remainder.
 pub fn check(bytes: &[u8]) -> u16
-    ensures { result ≡ check-of bytes.now }
+    ensures { result ≡ check_of bytes.now }
 {
     0xffff - divide(bytes)
 }
@@ -22,7 +22,7 @@ fn divide(bytes: &[u8]) -> u16
 
 // A byte is added to the register's front, and its eight bits are divided out.
 fn take_byte(register: u16, byte: u8) -> u16
-    ensures { result ≡ byte-in register byte }
+    ensures { result ≡ byte_in register byte }
 {
     let mut front = register ^ (byte as u16 * 256);
     for _ in 0..8u8 {

@@ -2,11 +2,11 @@
 use Rattle.std.proofs.Common.{◌≡◌, ℕ, ◌<◌, ◌≤◌, Bool, length, sym, ap}
 use Rattle.std.proofs.lemmas.Bool.{le-leb, lt-leb}
 use Rattle.label.specs.Label.{Label}
-use Rattle.dab.specs.Frames.{last-segment, text-body, command-body, sent-tags, dab-body}
+use Rattle.dab.specs.Frames.{last_segment, text_body, command_body, sent_tags, dab_body}
 
 module _ (l : Label) (t : Bool) (n : ℕ) where
-  pub on-segment : n ≤ last-segment (length l.text) → text-body l.text t n ≡ dab-body l t n
-  on-segment h = rw (le-leb n (last-segment (length l.text)) h)
+  pub on_segment : n ≤ last_segment (length l.text) → text_body l.text t n ≡ dab_body l t n
+  on_segment h = rw (le-leb n (last_segment (length l.text)) h)
 
-  pub on-command : last-segment (length l.text) < n → command-body l.item (sent-tags l.tags) t ≡ dab-body l t n
-  on-command h = rw (lt-leb n (last-segment (length l.text)) h)
+  pub on_command : last_segment (length l.text) < n → command_body l.item (sent_tags l.tags) t ≡ dab_body l t n
+  on_command h = rw (lt-leb n (last_segment (length l.text)) h)

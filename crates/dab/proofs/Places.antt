@@ -6,8 +6,8 @@ use Rattle.carrier.specs.Writing.{place}
 use Rattle.dab.specs.Frames.{framed}
 
 -- two bytes written behind a front
-two-set : (front zs : List ℕ) (n x y a b : ℕ) → length front ≡ n → set (set (front ++ (x ∷ (y ∷ zs))) n a) (n + 1) b ≡ front ++ (a ∷ (b ∷ zs))
-two-set front zs n x y a b e =
+two_set : (front zs : List ℕ) (n x y a b : ℕ) → length front ≡ n → set (set (front ++ (x ∷ (y ∷ zs))) n a) (n + 1) b ≡ front ++ (a ∷ (b ∷ zs))
+two_set front zs n x y a b e =
     ap (λ l. set l (n + 1) b) (set_at front x (y ∷ zs) a n e ∙ sym (append_assoc front (a ∷ []) (y ∷ zs)))
     ∙ set_at (front ++ (a ∷ [])) y zs b (n + 1) (length_push front a ∙ ap (λ m. m + 1) e)
     ∙ append_assoc front (a ∷ []) (b ∷ zs)
@@ -30,7 +30,7 @@ closes body copy check e le small =
     let l : length (body ++ octets 2 check) ≡ n + 2 = length-append body (octets 2 check) in
     let m : (n + 1) + 1 ≡ n + 2 = omega arith in
     let r : 20 - length (body ++ octets 2 check) ≡ 18 - n = omega arith in
-    let t = two-set ((n + 2) ∷ body) zs (n + 1) 0 0 (check / 256) (check % 256) (omega arith) in
+    let t = two_set ((n + 2) ∷ body) zs (n + 1) 0 0 (check / 256) (check % 256) (omega arith) in
     let s = append_assoc body (octets 2 check) zs in
     cc
 
@@ -41,5 +41,5 @@ fore xs zs ys a b e =
     ap₂ take q e ∙ ap (λ l. a ∷ (b ∷ l)) (take_at xs zs (length xs) refl)
 
 -- frames whose prefixes and data are the same
-pub same-frame : {f g s t : ℕ} {xs ys : List ℕ} → f ≡ g → s ≡ t → xs ≡ ys → place (framed (f ∷ (s ∷ xs))) ≡ place (framed (g ∷ (t ∷ ys)))
-same-frame {g = g} {s = s} {xs = xs} a b c = ap (λ f. place (framed (f ∷ (s ∷ xs)))) a ∙ ap₂ (λ t l. place (framed (g ∷ (t ∷ l)))) b c
+pub same_frame : {f g s t : ℕ} {xs ys : List ℕ} → f ≡ g → s ≡ t → xs ≡ ys → place (framed (f ∷ (s ∷ xs))) ≡ place (framed (g ∷ (t ∷ ys)))
+same_frame {g = g} {s = s} {xs = xs} a b c = ap (λ f. place (framed (f ∷ (s ∷ xs)))) a ∙ ap₂ (λ t l. place (framed (g ∷ (t ∷ l)))) b c

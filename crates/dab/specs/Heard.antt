@@ -10,22 +10,22 @@ use Rattle.label.specs.declared.tag.ItemBits.{ItemBits}
 use Rattle.carrier.specs.Meaning.{Outcome, answered, refused}
 use Rattle.carrier.specs.declared.answer.Answer.TheVariants.{PassedOver}
 use Rattle.taking.specs.Segments.{numbered}
-use Rattle.taking.specs.Taking.{on-text, on-tags}
-use Rattle.dab.specs.Frames.{segment, last-segment, text-first, text-second, tag-bytes, tags-first, command-data, command-first, command-second}
-use Rattle.dab.specs.Text.{dab-pieces, text-segment}
-use Rattle.dab.specs.Taking.{State, toggle-bit, first_bit, last_bit, command-bit, low-four, high-four, number-bits, on-segment, take-text, take-command, take-body, tags-in, item-bits, tag-count, whole-command}
-use Rattle.dab.specs.TagBytes.{length-tags}
+use Rattle.taking.specs.Taking.{on_text, on_tags}
+use Rattle.dab.specs.Frames.{segment, last_segment, text_first, text_second, tag_bytes, tags_first, command_data, command_first, command_second}
+use Rattle.dab.specs.Text.{dab_pieces, text_segment}
+use Rattle.dab.specs.Taking.{State, toggle_bit, first_bit, last_bit, command_bit, low_four, high_four, number_bits, on_segment, take_text, take_command, take_body, tags_in, item_bits, tag_count, whole_command}
+use Rattle.dab.specs.TagBytes.{length_tags}
 
 abbrev bit : Bool → ℕ
 bit b = cond b 1 0
 
-bit-back : (t : Bool) → (bit t == 1) ≡ t
-bit-back true = refl
-bit-back false = refl
+bit_back : (t : Bool) → (bit t == 1) ≡ t
+bit_back true = refl
+bit_back false = refl
 
-bit-small : (t : Bool) → bit t ≤ 1
-bit-small true = omega arith
-bit-small false = omega arith
+bit_small : (t : Bool) → bit t ≤ 1
+bit_small true = omega arith
+bit_small false = omega arith
 
 -- a first prefix byte: a toggle, first and last, whether it is a command, and the field
 pub record Prefix (n a b c e k : ℕ) : Type 0 where
@@ -41,54 +41,54 @@ prefix a b c e k x y z u w = record { top = omega arith; first = omega arith; la
 -- a text segment
 module _ (s : State) (x : List ℕ) (t : Bool) (n : ℕ) (some : 1 ≤ length (segment x n)) (few : length (segment x n) ≤ 16) (c : n < 8) where
   abbrev one : ℕ
-  one = text-first t n (last-segment (length x)) (length (segment x n))
+  one = text_first t n (last_segment (length x)) (length (segment x n))
 
   abbrev two : ℕ
-  two = text-second n
+  two = text_second n
 
-  p : Prefix (text-first t n (last-segment (length x)) (length (segment x n))) (bit t) (bit (n == 0)) (bit (n == last-segment (length x))) 0 (length (segment x n) - 1)
-  p = prefix (bit t) (bit (n == 0)) (bit (n == last-segment (length x))) 0 (length (segment x n) - 1) (bit-small t) (bit-small (n == 0)) (bit-small (n == last-segment (length x))) (omega arith) (omega arith)
+  p : Prefix (text_first t n (last_segment (length x)) (length (segment x n))) (bit t) (bit (n == 0)) (bit (n == last_segment (length x))) 0 (length (segment x n) - 1)
+  p = prefix (bit t) (bit (n == 0)) (bit (n == last_segment (length x))) 0 (length (segment x n) - 1) (bit_small t) (bit_small (n == 0)) (bit_small (n == last_segment (length x))) (omega arith) (omega arith)
 
-  abbrev on-piece : Bool → Bool → ℕ → Outcome State
-  on-piece g b k = on-text dab-pieces s g (record { number = k; segment = record { body = segment x n; last = b } })
+  abbrev on_piece : Bool → Bool → ℕ → Outcome State
+  on_piece g b k = on_text dab_pieces s g (record { number = k; segment = record { body = segment x n; last = b } })
 
-  same-piece : (k : ℕ) → k ≡ n → on-segment s one (segment x n) (Ok k) ≡ on-text dab-pieces s t (numbered (text-segment x) n)
-  same-piece k e =
-      ap (on-piece (toggle-bit one) (last_bit one)) e
-      ∙ ap (λ g. on-piece g (last_bit one) n) (ap (λ j. nat_eq j 1) p.top ∙ bit-back t)
-      ∙ ap (λ b. on-piece t b n) (ap (λ j. nat_eq j 1) p.last ∙ bit-back (n == last-segment (length x)))
+  same_piece : (k : ℕ) → k ≡ n → on_segment s one (segment x n) (Ok k) ≡ on_text dab_pieces s t (numbered (text_segment x) n)
+  same_piece k e =
+      ap (on_piece (toggle_bit one) (last_bit one)) e
+      ∙ ap (λ g. on_piece g (last_bit one) n) (ap (λ j. nat_eq j 1) p.top ∙ bit_back t)
+      ∙ ap (λ b. on_piece t b n) (ap (λ j. nat_eq j 1) p.last ∙ bit_back (n == last_segment (length x)))
 
   abbrev by_number : Bool → ℕ → Result ℕ Refusal
-  by_number b m = cond b (cond (high-four m == 0) (Ok 0) (Err OtherCharset)) (cond (number-bits m == 0) (Err LaterSegmentZero) (Ok (number-bits m)))
+  by_number b m = cond b (cond (high_four m == 0) (Ok 0) (Err OtherCharset)) (cond (number_bits m == 0) (Err LaterSegmentZero) (Ok (number_bits m)))
 
-  numbered-right : (b : Bool) → (n == 0) ≡ b → on-segment s one (segment x n) (by_number b (cond b 0 ((0 + n) * 16 + 0))) ≡ on-text dab-pieces s t (numbered (text-segment x) n)
-  numbered-right true e = same-piece 0 (sym (eqb-true n 0 e))
-  numbered-right false e =
+  numbered_right : (b : Bool) → (n == 0) ≡ b → on_segment s one (segment x n) (by_number b (cond b 0 ((0 + n) * 16 + 0))) ≡ on_text dab_pieces s t (numbered (text_segment x) n)
+  numbered_right true e = same_piece 0 (sym (eqb-true n 0 e))
+  numbered_right false e =
       let z = eqb-false n 0 e in
       let k : ((0 + n) * 16 + 0) / 16 % 8 ≡ n = omega arith in
-      ap (on-segment s one (segment x n)) (cond-false (number-bits ((0 + n) * 16 + 0) == 0) (Err LaterSegmentZero) (Ok (number-bits ((0 + n) * 16 + 0))) (ne_eqb (number-bits ((0 + n) * 16 + 0)) 0 (λ y. z (sym k ∙ y))))
-      ∙ same-piece (number-bits ((0 + n) * 16 + 0)) k
+      ap (on_segment s one (segment x n)) (cond-false (number_bits ((0 + n) * 16 + 0) == 0) (Err LaterSegmentZero) (Ok (number_bits ((0 + n) * 16 + 0))) (ne_eqb (number_bits ((0 + n) * 16 + 0)) 0 (λ y. z (sym k ∙ y))))
+      ∙ same_piece (number_bits ((0 + n) * 16 + 0)) k
 
-  pub text-heard : take-body s one two (segment x n) ≡ on-text dab-pieces s t (numbered (text-segment x) n)
-  text-heard =
+  pub text_heard : take_body s one two (segment x n) ≡ on_text dab_pieces s t (numbered (text_segment x) n)
+  text_heard =
       let f = p.field in
-      cond-true (not (command-bit one)) (take-text s one two (segment x n)) _ (ap not (ne_eqb (one / 16 % 2) 1 (λ e. let z = p.kind in omega arith)))
-      ∙ cond-false (not (low-four one + 1 == length (segment x n))) (refused WrongLength) (on-segment s one (segment x n) (by_number (first_bit one) two)) (ap not (eq-eqb (low-four one + 1) (length (segment x n)) (omega arith)))
-      ∙ ap (λ b. on-segment s one (segment x n) (by_number b two)) (ap (λ j. nat_eq j 1) p.first ∙ bit-back (n == 0))
-      ∙ numbered-right (n == 0) refl
+      cond-true (not (command_bit one)) (take_text s one two (segment x n)) _ (ap not (ne_eqb (one / 16 % 2) 1 (λ e. let z = p.kind in omega arith)))
+      ∙ cond-false (not (low_four one + 1 == length (segment x n))) (refused WrongLength) (on_segment s one (segment x n) (by_number (first_bit one) two)) (ap not (eq-eqb (low_four one + 1) (length (segment x n)) (omega arith)))
+      ∙ ap (λ b. on_segment s one (segment x n) (by_number b two)) (ap (λ j. nat_eq j 1) p.first ∙ bit_back (n == 0))
+      ∙ numbered_right (n == 0) refl
 
 -- tags whose fields fit in seven bits
 abbrev pub AllSmall : List Tag → Type 0
 AllSmall [] = Unit {0}
 AllSmall (t ∷ ts) = ((t.class < 128) × (t.start < 128) × (t.extent < 128)) × AllSmall ts
 
-tags-back : (ts : List Tag) → AllSmall ts → tags-in (length ts) (flat_map tag-bytes ts) ≡ ts
-tags-back [] h = refl
-tags-back (t ∷ ts) h =
+tags_back : (ts : List Tag) → AllSmall ts → tags_in (length ts) (flat_map tag_bytes ts) ≡ ts
+tags_back [] h = refl
+tags_back (t ∷ ts) h =
     let a : (0 + t.class) % 128 ≡ t.class = omega (arith, h.0.0) in
     let b : (0 + t.start) % 128 ≡ t.start = omega (arith, h.0.1) in
     let c : (0 + t.extent) % 128 ≡ t.extent = omega (arith, h.0.2) in
-    let r = tags-back ts h.1 in
+    let r = tags_back ts h.1 in
     λ i. record { class = a i; start = b i; extent = c i } ∷ r i
 
 -- the first data byte of a command
@@ -103,50 +103,50 @@ head a b k x y z = record { own = omega arith; toggle = omega arith; running = o
 
 module _ (s : State) (i : ItemBits) (ts : List Tag) (t : Bool) (some : 1 ≤ length ts) (few : length ts ≤ 4) (small : AllSmall ts) where
   abbrev d : List ℕ
-  d = command-data i ts
+  d = command_data i ts
 
   abbrev first' : ℕ
-  first' = command-first t
+  first' = command_first t
 
   abbrev second' : ℕ
-  second' = command-second t (length (command-data i ts))
+  second' = command_second t (length (command_data i ts))
 
-  pub data-long : length (command-data i ts) ≡ 1 + 3 * length ts
-  data-long = omega (arith, length-tags ts)
+  pub data_long : length (command_data i ts) ≡ 1 + 3 * length ts
+  data_long = omega (arith, length_tags ts)
 
-  q : Prefix (command-first t) (bit t) 1 1 1 2
-  q = prefix (bit t) 1 1 1 2 (bit-small t) (omega arith) (omega arith) (omega arith) (omega arith)
+  q : Prefix (command_first t) (bit t) 1 1 1 2
+  q = prefix (bit t) 1 1 1 2 (bit_small t) (omega arith) (omega arith) (omega arith) (omega arith)
 
-  h : Head (tags-first i (length ts)) (bit i.toggle) (bit i.running) (length ts - 1)
-  h = head (bit i.toggle) (bit i.running) (length ts - 1) (bit-small i.toggle) (bit-small i.running) (omega arith)
+  h : Head (tags_first i (length ts)) (bit i.toggle) (bit i.running) (length ts - 1)
+  h = head (bit i.toggle) (bit i.running) (length ts - 1) (bit_small i.toggle) (bit_small i.running) (omega arith)
 
-  second-top : command-second t (length (command-data i ts)) / 128 ≡ bit t
-  second-top = omega (arith, data-long, bit-small t)
+  second_top : command_second t (length (command_data i ts)) / 128 ≡ bit t
+  second_top = omega (arith, data_long, bit_small t)
 
-  second-field : command-second t (length (command-data i ts)) % 16 + 1 ≡ length (command-data i ts)
-  second-field = omega (arith, data-long, bit-small t)
+  second_field : command_second t (length (command_data i ts)) % 16 + 1 ≡ length (command_data i ts)
+  second_field = omega (arith, data_long, bit_small t)
 
-  how-many : tag-count (tags-first i (length ts)) ≡ length ts
-  how-many = omega (arith, h.more)
+  how_many : tag_count (tags_first i (length ts)) ≡ length ts
+  how_many = omega (arith, h.more)
 
-  item_back : item-bits (tags-first i (length ts)) ≡ i
+  item_back : item_bits (tags_first i (length ts)) ≡ i
   item_back =
-      let g : nat_eq (tags-first i (length ts) / 8 % 2) 1 ≡ i.toggle = ap (λ j. nat_eq j 1) h.toggle ∙ bit-back i.toggle in
-      let r : nat_eq (tags-first i (length ts) / 4 % 2) 1 ≡ i.running = ap (λ j. nat_eq j 1) h.running ∙ bit-back i.running in
+      let g : nat_eq (tags_first i (length ts) / 8 % 2) 1 ≡ i.toggle = ap (λ j. nat_eq j 1) h.toggle ∙ bit_back i.toggle in
+      let r : nat_eq (tags_first i (length ts) / 4 % 2) 1 ≡ i.running = ap (λ j. nat_eq j 1) h.running ∙ bit_back i.running in
       λ z. record { toggle = g z; running = r z }
 
-  whole : whole-command first' (tags-first i (length ts)) (length d) ≡ true
+  whole : whole_command first' (tags_first i (length ts)) (length d) ≡ true
   whole =
       and_from _ _ (and_from _ _ (eq-eqb (first' / 64 % 2) 1 q.first) (eq-eqb (first' / 32 % 2) 1 q.last))
-      (eq-eqb (length d) (1 + 3 * tag-count (tags-first i (length ts))) (data-long ∙ ap (λ k. 1 + 3 * k) (sym how-many)))
+      (eq-eqb (length d) (1 + 3 * tag_count (tags_first i (length ts))) (data_long ∙ ap (λ k. 1 + 3 * k) (sym how_many)))
 
-  pub command-heard : take-body s first' second' d ≡ on-tags dab-pieces s (Some t) (record { item = i; tags = ts })
-  command-heard =
-      cond-false (not (command-bit first')) (take-text s first' second' d) _ (ap not (eq-eqb (first' / 16 % 2) 1 q.kind))
-      ∙ cond-true (low-four first' == 2) (take-command s first' second' d) (answered PassedOver s) (eq-eqb (low-four first') 2 q.field)
-      ∙ cond-false (not (low-four second' + 1 == length d)) (refused WrongLength) _ (ap not (eq-eqb (low-four second' + 1) (length d) second-field))
-      ∙ cond-false (not (high-four (tags-first i (length ts)) == 0)) (answered PassedOver s) _ (ap not (eq-eqb (high-four (tags-first i (length ts))) 0 h.own))
-      ∙ cond-false (not (whole-command first' (tags-first i (length ts)) (length d))) (refused WrongCommand) _ (ap not whole)
-      ∙ ap (λ b. on-tags dab-pieces s (Some b) (record { item = item-bits (tags-first i (length ts)); tags = tags-in (tag-count (tags-first i (length ts))) (flat_map tag-bytes ts) })) (ap (λ j. nat_eq j 1) second-top ∙ bit-back t)
-      ∙ ap (λ j. on-tags dab-pieces s (Some t) (record { item = j; tags = tags-in (tag-count (tags-first i (length ts))) (flat_map tag-bytes ts) })) item_back
-      ∙ ap (λ us. on-tags dab-pieces s (Some t) (record { item = i; tags = us })) (ap (λ k. tags-in k (flat_map tag-bytes ts)) how-many ∙ tags-back ts small)
+  pub command_heard : take_body s first' second' d ≡ on_tags dab_pieces s (Some t) (record { item = i; tags = ts })
+  command_heard =
+      cond-false (not (command_bit first')) (take_text s first' second' d) _ (ap not (eq-eqb (first' / 16 % 2) 1 q.kind))
+      ∙ cond-true (low_four first' == 2) (take_command s first' second' d) (answered PassedOver s) (eq-eqb (low_four first') 2 q.field)
+      ∙ cond-false (not (low_four second' + 1 == length d)) (refused WrongLength) _ (ap not (eq-eqb (low_four second' + 1) (length d) second_field))
+      ∙ cond-false (not (high_four (tags_first i (length ts)) == 0)) (answered PassedOver s) _ (ap not (eq-eqb (high_four (tags_first i (length ts))) 0 h.own))
+      ∙ cond-false (not (whole_command first' (tags_first i (length ts)) (length d))) (refused WrongCommand) _ (ap not whole)
+      ∙ ap (λ b. on_tags dab_pieces s (Some b) (record { item = item_bits (tags_first i (length ts)); tags = tags_in (tag_count (tags_first i (length ts))) (flat_map tag_bytes ts) })) (ap (λ j. nat_eq j 1) second_top ∙ bit_back t)
+      ∙ ap (λ j. on_tags dab_pieces s (Some t) (record { item = j; tags = tags_in (tag_count (tags_first i (length ts))) (flat_map tag_bytes ts) })) item_back
+      ∙ ap (λ us. on_tags dab_pieces s (Some t) (record { item = i; tags = us })) (ap (λ k. tags_in k (flat_map tag_bytes ts)) how_many ∙ tags_back ts small)

@@ -13,15 +13,15 @@ use Rattle.dab.specs.Taking.{State}
 abbrev pub flagged : Segment → Flagged
 flagged s = record { body = take s.len s.bytes; last = s.last }
 
-abbrev pub numbered-segment : DabPiece → Numbered Flagged
-numbered-segment p = record { number = p.number; segment = flagged p.segment }
+abbrev pub numbered_segment : DabPiece → Numbered Flagged
+numbered_segment p = record { number = p.number; segment = flagged p.segment }
 
 -- the held segments by their numbers
 abbrev pub held_in : List (Option Segment) → Held Flagged
 held_in rows = λ i. option_map flagged (slice_index_or rows i None)
 
-abbrev pub held-text : DabText → Held Flagged
-held-text t = held_in t.segments
+abbrev pub held_text : DabText → Held Flagged
+held_text t = held_in t.segments
 
-abbrev pub dab-state : Dab → State
-dab-state d = view held-text d.taking
+abbrev pub dab_state : Dab → State
+dab_state d = view held_text d.taking

@@ -5,36 +5,36 @@ use Rattle.label.specs.declared.tag.Tag.{Tag}
 use Rattle.label.specs.Label.{Label}
 use Rattle.label.specs.Lawful.{lawful}
 use Rattle.label.specs.Tags.{has, sounding}
-use Rattle.label.proofs.Sounding.{sounding-again}
+use Rattle.label.proofs.Sounding.{sounding_again}
 use Rattle.taking.specs.Events.{OnAir, Airs, Event, piece, tags}
 use Rattle.taking.specs.Segments.{Numbered, numbered}
-use Rattle.dab.specs.Frames.{last-segment, sent-tags}
-use Rattle.dab.specs.Text.{Flagged, text-segment}
+use Rattle.dab.specs.Frames.{last_segment, sent_tags}
+use Rattle.dab.specs.Text.{Flagged, text_segment}
 use Rattle.dab.specs.Taking.{State}
 
 -- how many segments a label's text has
 abbrev pub texts : Label → ℕ
-texts l = suc (last-segment (length l.text))
+texts l = suc (last_segment (length l.text))
 
-abbrev pub dab-air : Label → Bool → OnAir (Numbered Flagged)
-dab-air l t = record { toggle = t; count = texts l; pieces = numbered (text-segment l.text); tags = record { item = l.item; tags = sent-tags l.tags }; tags-toggle = Some t }
+abbrev pub dab_air : Label → Bool → OnAir (Numbered Flagged)
+dab_air l t = record { toggle = t; count = texts l; pieces = numbered (text_segment l.text); tags = record { item = l.item; tags = sent_tags l.tags }; tags_toggle = Some t }
 
 -- what a frame of a label is to the shared rules
-abbrev pub dab-event : Label → State → ℕ → Event
-dab-event l s n = cond (nat_le n (last-segment (length l.text))) (piece n) tags
+abbrev pub dab_event : Label → State → ℕ → Event
+dab_event l s n = cond (nat_le n (last_segment (length l.text))) (piece n) tags
 
-sent-lawful : (n : ℕ) (ts : List Tag) → lawful n (sent-tags ts) ≡ lawful n ts
-sent-lawful n [] = refl
-sent-lawful n (t ∷ ts) = refl
+sent_lawful : (n : ℕ) (ts : List Tag) → lawful n (sent_tags ts) ≡ lawful n ts
+sent_lawful n [] = refl
+sent_lawful n (t ∷ ts) = refl
 
-sent-has : (v : Tag) (ts : List Tag) → has v (sounding (sent-tags ts)) ≡ has v (sounding ts)
-sent-has v [] = refl
-sent-has v (t ∷ ts) = refl
+sent_has : (v : Tag) (ts : List Tag) → has v (sounding (sent_tags ts)) ≡ has v (sounding ts)
+sent_has v [] = refl
+sent_has v (t ∷ ts) = refl
 
-pub dab-airs : (l : Label) (t : Bool) → lawful (length l.text) l.tags ≡ true → Airs l (dab-air l t)
-dab-airs l t h = record {
+pub dab_airs : (l : Label) (t : Bool) → lawful (length l.text) l.tags ≡ true → Airs l (dab_air l t)
+dab_airs l t h = record {
   some = omega arith;
-  lawful = sent-lawful (length l.text) l.tags ∙ h;
-  same = record { text = refl; item = refl; tags = λ v. ap (has v) (sounding-again (sent-tags l.tags)) ∙ sent-has v l.tags };
+  lawful = sent_lawful (length l.text) l.tags ∙ h;
+  same = record { text = refl; item = refl; tags = λ v. ap (has v) (sounding_again (sent_tags l.tags)) ∙ sent_has v l.tags };
   own = inr refl;
 }

@@ -3,9 +3,9 @@ use Rattle.std.specs.Prelude.{ℕ, Bool, true, ◌&&◌, List, length, None, ◌
 use Rattle.std.specs.Bool.{beq}
 use Rattle.std.specs.Str.{bytes_eq}
 use Rattle.taking.specs.Pieces.{Pieces}
-use Rattle.taking.specs.Segments.{Segments, Numbered, Held, in-segments}
+use Rattle.taking.specs.Segments.{Segments, Numbered, Held, in_segments}
 use Rattle.taking.specs.declared.look.Look.TheVariants.{Unlike}
-use Rattle.dab.specs.Frames.{segment, last-segment}
+use Rattle.dab.specs.Frames.{segment, last_segment}
 
 -- a segment: its data bytes, and whether the text ends in it
 pub record Flagged : Type 0 where
@@ -13,24 +13,24 @@ pub record Flagged : Type 0 where
   pub last : Bool
 
 -- segments are compared by their data bytes and their flags
-abbrev pub same-segment : Flagged → Flagged → Bool
-same-segment c d = bytes_eq c.body d.body && beq c.last d.last
+abbrev pub same_segment : Flagged → Flagged → Bool
+same_segment c d = bytes_eq c.body d.body && beq c.last d.last
 
 -- a segment behind the last is unlike what is held, and so is a last one before a segment that is held
-abbrev pub dab-segments : Segments Flagged
-dab-segments = record {
+abbrev pub dab_segments : Segments Flagged
+dab_segments = record {
   count = 8;
   ends = λ d. d.last;
   bytes = λ d. d.body;
   unended = None;
-  same = same-segment;
+  same = same_segment;
   past = Unlike;
   shuts = true;
 }
 
-abbrev pub dab-pieces : Pieces (Held Flagged) (Numbered Flagged)
-dab-pieces = in-segments dab-segments
+abbrev pub dab_pieces : Pieces (Held Flagged) (Numbered Flagged)
+dab_pieces = in_segments dab_segments
 
 -- a text's own segments
-abbrev pub text-segment : List ℕ → ℕ → Flagged
-text-segment x n = record { body = segment x n; last = (n == last-segment (length x)) }
+abbrev pub text_segment : List ℕ → ℕ → Flagged
+text_segment x n = record { body = segment x n; last = (n == last_segment (length x)) }

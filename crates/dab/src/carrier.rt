@@ -1,6 +1,6 @@
 ghost use Rattle.dab.specs.Taking.{State, dab};
-ghost use Rattle.dab.specs.Held.{dab-state};
-ghost use Rattle.dab.specs.Laws.{dab-lawful};
+ghost use Rattle.dab.specs.Held.{dab_state};
+ghost use Rattle.dab.specs.Laws.{dab_lawful};
 
 use crate::dab::Dab;
 use crate::open::open;
@@ -19,11 +19,11 @@ use taking::taken::Taking;
 impl Carrier for Dab {
     ghost State = { State };
 
-    ghost state = { dab-state };
+    ghost state = { dab_state };
 
     ghost meaning = { dab };
 
-    ghost lawful = { dab-lawful };
+    ghost lawful = { dab_lawful };
 
     fn fits(label: &Sealed) -> bool {
         label.len() <= 128 && label.tags().len() <= 4

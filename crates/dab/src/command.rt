@@ -1,7 +1,7 @@
 ghost use Rattle.std.specs.Prelude.{◌≡◌, ◌-◌, ◌*◌, ◌≤◌, ◌∷◌, ◌++◌, length, replicate};
 ghost use Rattle.std.specs.List.{flat_map};
 ghost use Rattle.carrier.specs.Writing.{place};
-ghost use Rattle.dab.specs.Frames.{sent-tags, tag-bytes, command-data, command-first, command-second, command-body, framed};
+ghost use Rattle.dab.specs.Frames.{sent_tags, tag_bytes, command_data, command_first, command_second, command_body, framed};
 
 use crate::frame::frame;
 use crate::prefix::{command_first, command_second, tags_first};
@@ -15,13 +15,13 @@ pub(crate) const NO_TAG: Tag = Tag {
 
 // The tags that are sent: with none, one that is all zeros.
 fn sent_tags(tags: &[Tag]) -> &[Tag]
-    ensures { result.now ≡ sent-tags tags.now }
+    ensures { result.now ≡ sent_tags tags.now }
 {
     if tags.is_empty() { &[NO_TAG] } else { tags }
 }
 
 fn tag_bytes(tag: Tag) -> [u8; 3]
-    ensures { result ≡ tag-bytes tag }
+    ensures { result ≡ tag_bytes tag }
 {
     [tag.class, tag.start, tag.extent]
 }
@@ -29,7 +29,7 @@ fn tag_bytes(tag: Tag) -> [u8; 3]
 // The bytes of up to four tags, with zeros behind them.
 fn tags_bytes(tags: &[Tag]) -> [u8; 12]
     requires { length tags.now ≤ 4 }
-    ensures { result ≡ flat_map tag-bytes tags.now ++ replicate (12 - 3 * length tags.now) 0 }
+    ensures { result ≡ flat_map tag_bytes tags.now ++ replicate (12 - 3 * length tags.now) 0 }
 {
     let mut bytes = [0; 12];
     for (i, tag) in tags.iter().enumerate() {
@@ -42,7 +42,7 @@ fn tags_bytes(tags: &[Tag]) -> [u8; 12]
 fn command_data(item: ItemBits, tags: &[Tag]) -> [u8; 13]
     requires some { 1 ≤ length tags.now }
     requires few { length tags.now ≤ 4 }
-    ensures { result ≡ command-data item tags.now ++ replicate (12 - 3 * length tags.now) 0 }
+    ensures { result ≡ command_data item tags.now ++ replicate (12 - 3 * length tags.now) 0 }
 {
     let mut bytes = [0; 13];
     bytes[0] = tags_first(item, tags.len());
@@ -54,7 +54,7 @@ fn command_data(item: ItemBits, tags: &[Tag]) -> [u8; 13]
 fn command_with(toggle: bool, bytes: &[u8]) -> [u8; 21]
     requires some { 1 ≤ length bytes.now }
     requires short { length bytes.now ≤ 16 }
-    ensures { result ≡ place (framed (command-first toggle ∷ command-second toggle (length bytes.now) ∷ bytes.now)) }
+    ensures { result ≡ place (framed (command_first toggle ∷ command_second toggle (length bytes.now) ∷ bytes.now)) }
 {
     frame(
         command_first(toggle),
@@ -67,7 +67,7 @@ fn command_with(toggle: bool, bytes: &[u8]) -> [u8; 21]
 fn command_for(item: ItemBits, tags: &[Tag], toggle: bool) -> [u8; 21]
     requires some { 1 ≤ length tags.now }
     requires few { length tags.now ≤ 4 }
-    ensures { result ≡ place (framed (command-body item tags.now toggle)) }
+    ensures { result ≡ place (framed (command_body item tags.now toggle)) }
 {
     let bytes = command_data(item, tags);
     command_with(toggle, &bytes[0..3 * tags.len() + 1])
@@ -76,7 +76,7 @@ fn command_for(item: ItemBits, tags: &[Tag], toggle: bool) -> [u8; 21]
 // The frame of a label's command, in its place.
 pub(crate) fn command_frame(item: ItemBits, tags: &[Tag], toggle: bool) -> [u8; 21]
     requires { length tags.now ≤ 4 }
-    ensures { result ≡ place (framed (command-body item (sent-tags tags.now) toggle)) }
+    ensures { result ≡ place (framed (command_body item (sent_tags tags.now) toggle)) }
 {
     command_for(item, sent_tags(tags), toggle)
 }

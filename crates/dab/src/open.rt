@@ -1,7 +1,7 @@
 ghost use Rattle.std.specs.Prelude.{◌≡◌, ◌+◌, ◌*◌, ◌==◌};
-ghost use Rattle.crc.specs.Check.{check-of};
-ghost use Rattle.dab.specs.Taking.{State, right-size, dab-step};
-ghost use Rattle.dab.specs.Opened.{on-opened};
+ghost use Rattle.crc.specs.Check.{check_of};
+ghost use Rattle.dab.specs.Taking.{State, right_size, dab_step};
+ghost use Rattle.dab.specs.Opened.{on_opened};
 
 use crc::check;
 use label::refusal::Refusal;
@@ -15,21 +15,21 @@ pub(crate) struct Opened<'a> {
 }
 
 fn is_right_size(len: usize) -> bool
-    ensures { result ≡ right-size len }
+    ensures { result ≡ right_size len }
 {
     5 <= len && len <= 20
 }
 
 // The two bytes are the check of the others.
 fn is_checked(bytes: &[u8], high: u8, low: u8) -> bool
-    ensures { result ≡ (check-of bytes.now == high * 256 + low) }
+    ensures { result ≡ (check_of bytes.now == high * 256 + low) }
 {
     check(bytes) == high as u16 * 256 + low as u16
 }
 
 // The prefix bytes and the data of a frame, if its length and its check are right.
 pub(crate) fn open(frame: &[u8]) -> Result<Opened<'_>, Refusal>
-    ensures { (s : State) → dab-step s frame.now ≡ on-opened s result }
+    ensures { (s : State) → dab_step s frame.now ≡ on_opened s result }
 {
     if !is_right_size(frame.len()) {
         return Err(Refusal::WrongSize);

@@ -1,9 +1,9 @@
 ghost use Rattle.std.specs.Prelude.{◌≡◌, suc, ◌-◌, ◌<◌, ◌≤◌, None, slice_index_or};
 ghost use Rattle.std.specs.Option.{option_map};
-ghost use Rattle.taking.specs.Segments.{Held, Numbered, ends_at, ends-below, is_held, any-from, look_at, read-from};
+ghost use Rattle.taking.specs.Segments.{Held, Numbered, ends_at, ends_below, is_held, any_from, look_at, read_from};
 ghost use Rattle.taking.specs.Views.{read_out, Short};
-ghost use Rattle.dab.specs.Text.{Flagged, dab-segments, dab-pieces};
-ghost use Rattle.dab.specs.Held.{flagged, numbered-segment, held_in, held-text};
+ghost use Rattle.dab.specs.Text.{Flagged, dab_segments, dab_pieces};
+ghost use Rattle.dab.specs.Held.{flagged, numbered_segment, held_in, held_text};
 ghost use Rattle.std.proofs.Common.{rules};
 
 use crate::held::{DabPiece, DabText, Segment};
@@ -20,7 +20,7 @@ fn held_at(segments: &[Option<Segment>; 8], number: usize) -> Option<Segment>
 
 // The text ends in this segment.
 fn ends(held: Option<Segment>) -> bool
-    ensures { result ≡ ends_at dab-segments (option_map flagged held) }
+    ensures { result ≡ ends_at dab_segments (option_map flagged held) }
 {
     match held {
         None => false,
@@ -31,7 +31,7 @@ fn ends(held: Option<Segment>) -> bool
 // The text ends in a held segment below the number.
 fn ends_before(segments: &[Option<Segment>; 8], number: usize) -> bool
     requires { number ≤ 8 }
-    ensures { result ≡ ends-below dab-segments (held_in segments.now) number }
+    ensures { result ≡ ends_below dab_segments (held_in segments.now) number }
 {
     for i in 0..number {
         if ends(held_at(segments, i)) {
@@ -53,7 +53,7 @@ fn is_held(held: Option<Segment>) -> bool
 // A segment above the number is held.
 fn goes_on_after(segments: &[Option<Segment>; 8], number: usize) -> bool
     requires { number < 8 }
-    ensures { result ≡ any-from (held_in segments.now) (8 - suc number) (suc number) }
+    ensures { result ≡ any_from (held_in segments.now) (8 - suc number) (suc number) }
 {
     for i in number + 1..8 {
         if is_held(held_at(segments, i)) {
@@ -65,7 +65,7 @@ fn goes_on_after(segments: &[Option<Segment>; 8], number: usize) -> bool
 
 // A segment beside the one that is held under its number.
 fn look_at(held: Option<Segment>, segment: &Segment) -> Look
-    ensures { result ≡ look_at dab-segments (option_map flagged held) (flagged segment.now) }
+    ensures { result ≡ look_at dab_segments (option_map flagged held) (flagged segment.now) }
 {
     match held {
         None => Look::Fresh,
@@ -81,7 +81,7 @@ fn look_at(held: Option<Segment>, segment: &Segment) -> Look
 
 // The text's length where it is complete, and the text at the start of the buffer: the segments up to the last, joined.
 fn read(segments: &[Option<Segment>; 8], out: &mut [u8; 128]) -> Option<usize>
-    ensures text { read-from dab-segments (held_in segments.now) 8 0 ≡ read_out result out.new }
+    ensures text { read_from dab_segments (held_in segments.now) 8 0 ≡ read_out result out.new }
     ensures short { Short result }
 {
     let mut len = 0;
@@ -99,7 +99,7 @@ fn read(segments: &[Option<Segment>; 8], out: &mut [u8; 128]) -> Option<usize>
 }
 
 fn nothing_held() -> [Option<Segment>; 8]
-    ensures { held_in result ≡ dab-pieces.none }
+    ensures { held_in result ≡ dab_pieces.none }
 {
     [None; 8]
 }
@@ -111,11 +111,11 @@ impl Pieces for DabText {
 
     ghost Meant = { Numbered Flagged };
 
-    ghost held = { held-text };
+    ghost held = { held_text };
 
-    ghost meant = { numbered-segment };
+    ghost meant = { numbered_segment };
 
-    ghost pieces = { dab-pieces };
+    ghost pieces = { dab_pieces };
 
     ghost empty = { Prim.search rules };
 

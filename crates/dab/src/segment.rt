@@ -1,6 +1,6 @@
 ghost use Rattle.std.specs.Prelude.{◌≡◌, ◌≤◌, length};
 ghost use Rattle.std.specs.Str.{bytes_eq};
-ghost use Rattle.dab.specs.Text.{same-segment};
+ghost use Rattle.dab.specs.Text.{same_segment};
 ghost use Rattle.dab.specs.Held.{flagged};
 
 use crate::held::Segment;
@@ -36,7 +36,7 @@ impl Segment {
 
     // The same data bytes and the same flag.
     pub(crate) fn is_same(&self, other: &Segment) -> bool
-        ensures { result ≡ same-segment (flagged self.now) (flagged other.now) }
+        ensures { result ≡ same_segment (flagged self.now) (flagged other.now) }
     {
         are_same(self.data(), other.data()) && self.last == other.last
     }

@@ -1,6 +1,6 @@
 ghost use Rattle.std.specs.Prelude.{◌≡◌, ◌+◌, ◌*◌, ◌≤◌, length, take, slice_index};
-ghost use Rattle.dab.specs.Taking.{tag_in, tags-in, tag-count, command-tags};
-ghost use Rattle.taking.specs.Views.{tags-of};
+ghost use Rattle.dab.specs.Taking.{tag_in, tags_in, tag_count, command_tags};
+ghost use Rattle.taking.specs.Views.{tags_of};
 
 use crate::command::NO_TAG;
 use crate::prefix::{item_bits, tag_count};
@@ -23,7 +23,7 @@ fn tag_in(bytes: &[u8]) -> Tag
 pub(crate) fn tags_in(bytes: &[u8], count: usize) -> [Tag; 4]
     requires few { count ≤ 4 }
     requires long { 3 * count ≤ length bytes.now }
-    ensures { take count result ≡ tags-in count bytes.now }
+    ensures { take count result ≡ tags_in count bytes.now }
 {
     let mut tags = [NO_TAG; 4];
     for i in 0..count {
@@ -34,8 +34,8 @@ pub(crate) fn tags_in(bytes: &[u8], count: usize) -> [Tag; 4]
 
 // The item bits and tags of a command, by its data.
 pub(crate) fn command_tags(bytes: &[u8]) -> Arrived
-    requires { length bytes.now ≡ 1 + 3 * tag-count (slice_index bytes.now 0) }
-    ensures { tags-of result ≡ command-tags bytes.now }
+    requires { length bytes.now ≡ 1 + 3 * tag_count (slice_index bytes.now 0) }
+    ensures { tags_of result ≡ command_tags bytes.now }
 {
     let head = bytes[0];
     let count = tag_count(head);

@@ -1,7 +1,7 @@
 ghost use Rattle.std.specs.Prelude.{◌≡◌};
 ghost use Rattle.carrier.specs.Meaning.{reply, next};
-ghost use Rattle.dab.specs.Taking.{take-text, take-command, take-body};
-ghost use Rattle.dab.specs.Held.{dab-state};
+ghost use Rattle.dab.specs.Taking.{take_text, take_command, take_body};
+ghost use Rattle.dab.specs.Held.{dab_state};
 
 use crate::dab::Dab;
 use crate::held::{DabPiece, Segment};
@@ -18,8 +18,8 @@ use taking::pieces::Pieces;
 impl Dab {
     // Takes a text segment.
     fn take_text(&mut self, first: u8, second: u8, bytes: &[u8]) -> Result<Answer, Refusal>
-        ensures reply { result ≡ reply (take-text (dab-state self.old) first second bytes.now) }
-        ensures next { dab-state self.new ≡ next (dab-state self.old) (take-text (dab-state self.old) first second bytes.now) }
+        ensures reply { result ≡ reply (take_text (dab_state self.old) first second bytes.now) }
+        ensures next { dab_state self.new ≡ next (dab_state self.old) (take_text (dab_state self.old) first second bytes.now) }
     {
         if low_four(first) as usize + 1 != bytes.len() {
             return Err(Refusal::WrongLength);
@@ -32,8 +32,8 @@ impl Dab {
 
     // Takes a command of DL Plus.
     fn take_command(&mut self, first: u8, second: u8, bytes: &[u8]) -> Result<Answer, Refusal>
-        ensures reply { result ≡ reply (take-command (dab-state self.old) first second bytes.now) }
-        ensures next { dab-state self.new ≡ next (dab-state self.old) (take-command (dab-state self.old) first second bytes.now) }
+        ensures reply { result ≡ reply (take_command (dab_state self.old) first second bytes.now) }
+        ensures next { dab_state self.new ≡ next (dab_state self.old) (take_command (dab_state self.old) first second bytes.now) }
     {
         if low_four(second) as usize + 1 != bytes.len() {
             return Err(Refusal::WrongLength);
@@ -51,8 +51,8 @@ impl Dab {
 
     // Takes a frame that was opened.
     pub(crate) fn take_opened(&mut self, frame: &Opened<'_>) -> Result<Answer, Refusal>
-        ensures reply { result ≡ reply (take-body (dab-state self.old) frame.now.first frame.now.second frame.now.bytes.now) }
-        ensures next { dab-state self.new ≡ next (dab-state self.old) (take-body (dab-state self.old) frame.now.first frame.now.second frame.now.bytes.now) }
+        ensures reply { result ≡ reply (take_body (dab_state self.old) frame.now.first frame.now.second frame.now.bytes.now) }
+        ensures next { dab_state self.new ≡ next (dab_state self.old) (take_body (dab_state self.old) frame.now.first frame.now.second frame.now.bytes.now) }
     {
         if !command_bit(frame.first) {
             return self.take_text(frame.first, frame.second, frame.bytes);

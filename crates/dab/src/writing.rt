@@ -1,8 +1,8 @@
 ghost use Rattle.std.specs.Prelude.{◌≡◌, true};
-ghost use Rattle.label.specs.Drafts.{sealed-outline, matches};
+ghost use Rattle.label.specs.Drafts.{sealed_outline, matches};
 ghost use Rattle.label.specs.Label.{label_of};
 ghost use Rattle.carrier.specs.Writing.{place};
-ghost use Rattle.dab.specs.Frames.{dab-frame, dab-writing};
+ghost use Rattle.dab.specs.Frames.{dab_frame, dab_writing};
 
 use crate::command::command_frame;
 use crate::text::{last_segment, text_frame};
@@ -18,9 +18,9 @@ pub(crate) fn lay(
     toggle: bool,
     number: usize,
 ) -> [u8; 21]
-    requires fits { dab-writing.fits (sealed-outline label.now) ≡ true }
-    requires own { matches (sealed-outline label.now) text.now ≡ true }
-    ensures { result ≡ place (dab-frame (label_of (sealed-outline label.now) item text.now) toggle 0 number) }
+    requires fits { dab_writing.fits (sealed_outline label.now) ≡ true }
+    requires own { matches (sealed_outline label.now) text.now ≡ true }
+    ensures { result ≡ place (dab_frame (label_of (sealed_outline label.now) item text.now) toggle 0 number) }
 {
     if number <= last_segment(text.len()) {
         text_frame(text, toggle, number)

@@ -3,15 +3,15 @@ use Rattle.std.proofs.Common.{◌≡◌, ℕ, ◌<◌, ◌≤◌, Bool, true, fa
 use Rattle.std.proofs.lemmas.Bool.{and_parts, both_ways, cases_eq, eq-eqb, ne_eqb, not-true}
 use Rattle.std.proofs.lemmas.Bool.Decides.{nat_tests}
 use Rattle.label.specs.declared.tag.Tag.{Tag}
-use Rattle.label.specs.Classes.{silent, item-class, item-classes}
-use Rattle.label.specs.Label.{Label, part-for, marked, is-deletion, deletes-in, item-deletion}
+use Rattle.label.specs.Classes.{silent, item_class, item_classes}
+use Rattle.label.specs.Label.{Label, part_for, marked, is_deletion, deletes_in, item_deletion}
 use Rattle.label.specs.Lawful.{apart, all_apart, lawful, sealable}
 use Rattle.label.specs.Lists.{all}
 use Rattle.label.specs.Tags.{part, deletion, sounds}
-use Rattle.label.proofs.Marks.{Without, none-marked, others, sealable-apart}
-use Rattle.label.proofs.Sounding.{sounding-all}
-use Rattle.agreement.specs.Rules.{stored, rule-3}
-use Rattle.display.specs.Passes.{deletes-for, deleted, stores-for, put-by}
+use Rattle.label.proofs.Marks.{Without, none_marked, others, sealable_apart}
+use Rattle.label.proofs.Sounding.{sounding_all}
+use Rattle.agreement.specs.Rules.{stored, rule_3}
+use Rattle.display.specs.Passes.{deletes_for, deleted, stores_for, put_by}
 
 -- no tag is silent, and no class comes twice
 abbrev pub Distinct : List Tag → Type 0
@@ -28,218 +28,218 @@ distinct_from (t ∷ ts) s a =
 pub distinct : (n : ℕ) (ts : List Tag) → sealable n ts ≡ true → Distinct ts
 distinct n ts e =
     let s = (and_parts (leb (length ts) 4) (all sounds ts) (and_parts (leb (length ts) 4 && all sounds ts) (lawful n ts) e).0).1 in
-    distinct_from ts s (ap all_apart (sym (sounding-all ts s)) ∙ sealable-apart n ts e)
+    distinct_from ts s (ap all_apart (sym (sounding_all ts s)) ∙ sealable_apart n ts e)
 
 -- what is marked is what is tagged
-never-silent : (ts : List Tag) (k : ℕ) → silent k ≡ true → Distinct ts → Without k ts
-never-silent [] k s p = tt
-never-silent (t ∷ ts) k s p = (ne_eqb t.class k (λ e. both_ways (silent k) (ap silent (sym e) ∙ not-true (silent t.class) p.0) s), never-silent ts k s p.2)
+never_silent : (ts : List Tag) (k : ℕ) → silent k ≡ true → Distinct ts → Without k ts
+never_silent [] k s p = tt
+never_silent (t ∷ ts) k s p = (ne_eqb t.class k (λ e. both_ways (silent k) (ap silent (sym e) ∙ not-true (silent t.class) p.0) s), never_silent ts k s p.2)
 
-pub plain-marked : (l : Label) (k : ℕ) → Distinct l.tags → marked l k ≡ part-for l.text l.tags k
+pub plain_marked : (l : Label) (k : ℕ) → Distinct l.tags → marked l k ≡ part_for l.text l.tags k
 unfolding marked
-plain-marked l k p = go (silent k) refl
+plain_marked l k p = go (silent k) refl
   where
-    go : (b : Bool) → silent k ≡ b → cond b None (part-for l.text l.tags k) ≡ part-for l.text l.tags k
-    go true e = sym (none-marked l.text k l.tags (never-silent l.tags k e p))
+    go : (b : Bool) → silent k ≡ b → cond b None (part_for l.text l.tags k) ≡ part_for l.text l.tags k
+    go true e = sym (none_marked l.text k l.tags (never_silent l.tags k e p))
     go false e = refl
 
 -- the second pass
-put-none : (text : List ℕ) (r : Bool) (ts : List Tag) (k : ℕ) (old : List ℕ) → Without k ts → put-by text r ts k old ≡ old
-unfolding put-by
-put-none text r [] k old e = refl
-put-none text r (t ∷ ts) k old e =
-    ap (λ b. put-by text r ts k (cond (b && (not (deletion (part text t)) && (not (item-class t.class) || r))) (part text t) old)) e.0
-    ∙ put-none text r ts k old e.1
+put_none : (text : List ℕ) (r : Bool) (ts : List Tag) (k : ℕ) (old : List ℕ) → Without k ts → put_by text r ts k old ≡ old
+unfolding put_by
+put_none text r [] k old e = refl
+put_none text r (t ∷ ts) k old e =
+    ap (λ b. put_by text r ts k (cond (b && (not (deletion (part text t)) && (not (item_class t.class) || r))) (part text t) old)) e.0
+    ∙ put_none text r ts k old e.1
 
-put-tagged : (text : List ℕ) (r : Bool) (ts : List Tag) (k : ℕ) (old : List ℕ) → Distinct ts → put-by text r ts k old ≡ stored (part-for text ts k) (not (item-class k) || r) old
-unfolding put-by
-put-tagged text r [] k old p = refl
-put-tagged text r (t ∷ ts) k old p = ⊎_elim here (there (put-tagged text r ts k old p.2)) (cases_eq t.class k)
+put_tagged : (text : List ℕ) (r : Bool) (ts : List Tag) (k : ℕ) (old : List ℕ) → Distinct ts → put_by text r ts k old ≡ stored (part_for text ts k) (not (item_class k) || r) old
+unfolding put_by
+put_tagged text r [] k old p = refl
+put_tagged text r (t ∷ ts) k old p = ⊎_elim here (there (put_tagged text r ts k old p.2)) (cases_eq t.class k)
   where
     new : List ℕ
-    new = cond (not (deletion (part text t)) && (not (item-class k) || r)) (part text t) old
+    new = cond (not (deletion (part text t)) && (not (item_class k) || r)) (part text t) old
 
-    here : t.class ≡ k → put-by text r ts k (cond (stores-for text r t k) (part text t) old) ≡ stored (cond (eqb t.class k) (Some (part text t)) (part-for text ts k)) (not (item-class k) || r) old
+    here : t.class ≡ k → put_by text r ts k (cond (stores_for text r t k) (part text t) old) ≡ stored (cond (eqb t.class k) (Some (part text t)) (part_for text ts k)) (not (item_class k) || r) old
     here e =
-        ap (λ b. put-by text r ts k (cond (b && (not (deletion (part text t)) && (not (item-class t.class) || r))) (part text t) old)) (eq-eqb t.class k e)
-        ∙ ap (λ c. put-by text r ts k (cond (not (deletion (part text t)) && (not (item-class c) || r)) (part text t) old)) e
-        ∙ put-none text r ts k new (subst (λ c. Without c ts) e p.1)
-        ∙ ap (λ b. stored (cond b (Some (part text t)) (part-for text ts k)) (not (item-class k) || r) old) (sym (eq-eqb t.class k e))
+        ap (λ b. put_by text r ts k (cond (b && (not (deletion (part text t)) && (not (item_class t.class) || r))) (part text t) old)) (eq-eqb t.class k e)
+        ∙ ap (λ c. put_by text r ts k (cond (not (deletion (part text t)) && (not (item_class c) || r)) (part text t) old)) e
+        ∙ put_none text r ts k new (subst (λ c. Without c ts) e p.1)
+        ∙ ap (λ b. stored (cond b (Some (part text t)) (part_for text ts k)) (not (item_class k) || r) old) (sym (eq-eqb t.class k e))
 
-    there : put-by text r ts k old ≡ stored (part-for text ts k) (not (item-class k) || r) old → (t.class ≡ k → ⊥) → put-by text r ts k (cond (stores-for text r t k) (part text t) old) ≡ stored (cond (eqb t.class k) (Some (part text t)) (part-for text ts k)) (not (item-class k) || r) old
+    there : put_by text r ts k old ≡ stored (part_for text ts k) (not (item_class k) || r) old → (t.class ≡ k → ⊥) → put_by text r ts k (cond (stores_for text r t k) (part text t) old) ≡ stored (cond (eqb t.class k) (Some (part text t)) (part_for text ts k)) (not (item_class k) || r) old
     there rest n =
-        ap (λ b. put-by text r ts k (cond (b && (not (deletion (part text t)) && (not (item-class t.class) || r))) (part text t) old)) (ne_eqb t.class k n)
+        ap (λ b. put_by text r ts k (cond (b && (not (deletion (part text t)) && (not (item_class t.class) || r))) (part text t) old)) (ne_eqb t.class k n)
         ∙ rest
-        ∙ ap (λ b. stored (cond b (Some (part text t)) (part-for text ts k)) (not (item-class k) || r) old) (sym (ne_eqb t.class k n))
+        ∙ ap (λ b. stored (cond b (Some (part text t)) (part_for text ts k)) (not (item_class k) || r) old) (sym (ne_eqb t.class k n))
 
 -- the first pass
-items-deleted : List ℕ → List Tag → Bool
-items-deleted text [] = false
-items-deleted text (t ∷ ts) = item-class t.class && deletion (part text t) || items-deleted text ts
+items_deleted : List ℕ → List Tag → Bool
+items_deleted text [] = false
+items_deleted text (t ∷ ts) = item_class t.class && deletion (part text t) || items_deleted text ts
 
-bools-apart : (d a b i : Bool) → (d && cond a b false || b && i) ≡ (b && (a && d || i))
-bools-apart true true true i = refl
-bools-apart true true false i = refl
-bools-apart true false true i = refl
-bools-apart true false false i = refl
-bools-apart false true true i = refl
-bools-apart false true false i = refl
-bools-apart false false true i = refl
-bools-apart false false false i = refl
+bools_apart : (d a b i : Bool) → (d && cond a b false || b && i) ≡ (b && (a && d || i))
+bools_apart true true true i = refl
+bools_apart true true false i = refl
+bools_apart true false true i = refl
+bools_apart true false false i = refl
+bools_apart false true true i = refl
+bools_apart false true false i = refl
+bools_apart false false true i = refl
+bools_apart false false false i = refl
 
-bools-there : (d a b x i : Bool) → (d && cond a b false || (x || b && i)) ≡ (x || b && (a && d || i))
-bools-there d a b true true = or-true (d && cond a b false)
+bools_there : (d a b x i : Bool) → (d && cond a b false || (x || b && i)) ≡ (x || b && (a && d || i))
+bools_there d a b true true = or_true (d && cond a b false)
   where
-    or-true : (y : Bool) → (y || true) ≡ true
-    or-true true = refl
-    or-true false = refl
-bools-there d a b true false = or-true (d && cond a b false)
+    or_true : (y : Bool) → (y || true) ≡ true
+    or_true true = refl
+    or_true false = refl
+bools_there d a b true false = or_true (d && cond a b false)
   where
-    or-true : (y : Bool) → (y || true) ≡ true
-    or-true true = refl
-    or-true false = refl
-bools-there d a b false i = bools-apart d a b i
+    or_true : (y : Bool) → (y || true) ≡ true
+    or_true true = refl
+    or_true false = refl
+bools_there d a b false i = bools_apart d a b i
 
-bools-here : (d b i : Bool) → (d && cond b b true || b && i) ≡ (d || b && (b && d || i))
-bools-here true true i = refl
-bools-here true false i = refl
-bools-here false true i = refl
-bools-here false false i = refl
+bools_here : (d b i : Bool) → (d && cond b b true || b && i) ≡ (d || b && (b && d || i))
+bools_here true true i = refl
+bools_here true false i = refl
+bools_here false true i = refl
+bools_here false false i = refl
 
-deleted-apart : (text : List ℕ) (ts : List Tag) (k : ℕ) → Without k ts → deleted text ts k ≡ (item-class k && items-deleted text ts)
-unfolding deleted items-deleted
-deleted-apart text [] k e = sym (and-false (item-class k))
+deleted_apart : (text : List ℕ) (ts : List Tag) (k : ℕ) → Without k ts → deleted text ts k ≡ (item_class k && items_deleted text ts)
+unfolding deleted items_deleted
+deleted_apart text [] k e = sym (and_false (item_class k))
   where
-    and-false : (b : Bool) → (b && false) ≡ false
-    and-false true = refl
-    and-false false = refl
-deleted-apart text (t ∷ ts) k e =
-    ap (λ b. deletion (part text t) && cond (item-class t.class) (item-class k) b || deleted text ts k) e.0
-    ∙ ap (λ b. deletion (part text t) && cond (item-class t.class) (item-class k) false || b) (deleted-apart text ts k e.1)
-    ∙ bools-apart (deletion (part text t)) (item-class t.class) (item-class k) (items-deleted text ts)
+    and_false : (b : Bool) → (b && false) ≡ false
+    and_false true = refl
+    and_false false = refl
+deleted_apart text (t ∷ ts) k e =
+    ap (λ b. deletion (part text t) && cond (item_class t.class) (item_class k) b || deleted text ts k) e.0
+    ∙ ap (λ b. deletion (part text t) && cond (item_class t.class) (item_class k) false || b) (deleted_apart text ts k e.1)
+    ∙ bools_apart (deletion (part text t)) (item_class t.class) (item_class k) (items_deleted text ts)
 
-deleted-tagged : (text : List ℕ) (ts : List Tag) (k : ℕ) → Distinct ts → deleted text ts k ≡ (is-deletion (part-for text ts k) || item-class k && items-deleted text ts)
-unfolding deleted items-deleted
-deleted-tagged text [] k p = deleted-apart text [] k tt
-deleted-tagged text (t ∷ ts) k p = ⊎_elim here (there (deleted-tagged text ts k p.2)) (cases_eq t.class k)
+deleted_tagged : (text : List ℕ) (ts : List Tag) (k : ℕ) → Distinct ts → deleted text ts k ≡ (is_deletion (part_for text ts k) || item_class k && items_deleted text ts)
+unfolding deleted items_deleted
+deleted_tagged text [] k p = deleted_apart text [] k tt
+deleted_tagged text (t ∷ ts) k p = ⊎_elim here (there (deleted_tagged text ts k p.2)) (cases_eq t.class k)
   where
     d : Bool
     d = deletion (part text t)
 
-    there : deleted text ts k ≡ (is-deletion (part-for text ts k) || item-class k && items-deleted text ts) → (t.class ≡ k → ⊥) → (d && cond (item-class t.class) (item-class k) (eqb t.class k) || deleted text ts k)
-        ≡ (is-deletion (cond (eqb t.class k) (Some (part text t)) (part-for text ts k)) || item-class k && (item-class t.class && d || items-deleted text ts))
+    there : deleted text ts k ≡ (is_deletion (part_for text ts k) || item_class k && items_deleted text ts) → (t.class ≡ k → ⊥) → (d && cond (item_class t.class) (item_class k) (eqb t.class k) || deleted text ts k)
+        ≡ (is_deletion (cond (eqb t.class k) (Some (part text t)) (part_for text ts k)) || item_class k && (item_class t.class && d || items_deleted text ts))
     there rest n =
-        ap (λ b. d && cond (item-class t.class) (item-class k) b || deleted text ts k) (ne_eqb t.class k n)
-        ∙ ap (λ b. d && cond (item-class t.class) (item-class k) false || b) rest
-        ∙ bools-there d (item-class t.class) (item-class k) (is-deletion (part-for text ts k)) (items-deleted text ts)
-        ∙ ap (λ b. is-deletion (cond b (Some (part text t)) (part-for text ts k)) || item-class k && (item-class t.class && d || items-deleted text ts)) (sym (ne_eqb t.class k n))
+        ap (λ b. d && cond (item_class t.class) (item_class k) b || deleted text ts k) (ne_eqb t.class k n)
+        ∙ ap (λ b. d && cond (item_class t.class) (item_class k) false || b) rest
+        ∙ bools_there d (item_class t.class) (item_class k) (is_deletion (part_for text ts k)) (items_deleted text ts)
+        ∙ ap (λ b. is_deletion (cond b (Some (part text t)) (part_for text ts k)) || item_class k && (item_class t.class && d || items_deleted text ts)) (sym (ne_eqb t.class k n))
 
-    here : t.class ≡ k → (d && cond (item-class t.class) (item-class k) (eqb t.class k) || deleted text ts k)
-        ≡ (is-deletion (cond (eqb t.class k) (Some (part text t)) (part-for text ts k)) || item-class k && (item-class t.class && d || items-deleted text ts))
+    here : t.class ≡ k → (d && cond (item_class t.class) (item_class k) (eqb t.class k) || deleted text ts k)
+        ≡ (is_deletion (cond (eqb t.class k) (Some (part text t)) (part_for text ts k)) || item_class k && (item_class t.class && d || items_deleted text ts))
     here e =
-        ap (λ b. d && cond (item-class t.class) (item-class k) b || deleted text ts k) (eq-eqb t.class k e)
-        ∙ ap (λ b. d && cond (item-class t.class) (item-class k) true || b) (deleted-apart text ts k (subst (λ c. Without c ts) e p.1))
-        ∙ ap (λ c. d && cond (item-class c) (item-class k) true || item-class k && items-deleted text ts) e
-        ∙ bools-here d (item-class k) (items-deleted text ts)
-        ∙ ap (λ c. d || item-class k && (item-class c && d || items-deleted text ts)) (sym e)
-        ∙ ap (λ b. is-deletion (cond b (Some (part text t)) (part-for text ts k)) || item-class k && (item-class t.class && d || items-deleted text ts)) (sym (eq-eqb t.class k e))
+        ap (λ b. d && cond (item_class t.class) (item_class k) b || deleted text ts k) (eq-eqb t.class k e)
+        ∙ ap (λ b. d && cond (item_class t.class) (item_class k) true || b) (deleted_apart text ts k (subst (λ c. Without c ts) e p.1))
+        ∙ ap (λ c. d && cond (item_class c) (item_class k) true || item_class k && items_deleted text ts) e
+        ∙ bools_here d (item_class k) (items_deleted text ts)
+        ∙ ap (λ c. d || item_class k && (item_class c && d || items_deleted text ts)) (sym e)
+        ∙ ap (λ b. is_deletion (cond b (Some (part text t)) (part_for text ts k)) || item_class k && (item_class t.class && d || items_deleted text ts)) (sym (eq-eqb t.class k e))
 
 -- an Item deletion, by the classes and by the tags
 among : ℕ → List ℕ → Bool
 among c [] = false
 among c (x ∷ xs) = eqb c x || among c xs
 
-items-among : (c : ℕ) → among c item-classes ≡ item-class c
+items_among : (c : ℕ) → among c item_classes ≡ item_class c
 unfolding among
-items-among c = grind (arith, nat_tests)
+items_among c = grind (arith, nat_tests)
 
-deletes-tagged : List ℕ → List Tag → List ℕ → Bool
-deletes-tagged text ts [] = false
-deletes-tagged text ts (c ∷ cs) = is-deletion (part-for text ts c) || deletes-tagged text ts cs
+deletes_tagged : List ℕ → List Tag → List ℕ → Bool
+deletes_tagged text ts [] = false
+deletes_tagged text ts (c ∷ cs) = is_deletion (part_for text ts c) || deletes_tagged text ts cs
 
-deletes-plain : (l : Label) (cs : List ℕ) → Distinct l.tags → deletes-in l cs ≡ deletes-tagged l.text l.tags cs
-unfolding deletes-in deletes-tagged
-deletes-plain l [] p = refl
-deletes-plain l (c ∷ cs) p = ap (λ o. is-deletion o || deletes-in l cs) (plain-marked l c p) ∙ ap (λ b. is-deletion (part-for l.text l.tags c) || b) (deletes-plain l cs p)
+deletes_plain : (l : Label) (cs : List ℕ) → Distinct l.tags → deletes_in l cs ≡ deletes_tagged l.text l.tags cs
+unfolding deletes_in deletes_tagged
+deletes_plain l [] p = refl
+deletes_plain l (c ∷ cs) p = ap (λ o. is_deletion o || deletes_in l cs) (plain_marked l c p) ∙ ap (λ b. is_deletion (part_for l.text l.tags c) || b) (deletes_plain l cs p)
 
-bools-more : (e d x m y : Bool) → (e && d || x || (m && d || y)) ≡ ((e || m) && d || (x || y))
-bools-more true true x m y = refl
-bools-more true false x true y = refl
-bools-more true false x false y = refl
-bools-more false true true true y = refl
-bools-more false true true false y = refl
-bools-more false true false true y = refl
-bools-more false true false false y = refl
-bools-more false false x true y = refl
-bools-more false false x false y = refl
+bools_more : (e d x m y : Bool) → (e && d || x || (m && d || y)) ≡ ((e || m) && d || (x || y))
+bools_more true true x m y = refl
+bools_more true false x true y = refl
+bools_more true false x false y = refl
+bools_more false true true true y = refl
+bools_more false true true false y = refl
+bools_more false true false true y = refl
+bools_more false true false false y = refl
+bools_more false false x true y = refl
+bools_more false false x false y = refl
 
-tag-here : (text : List ℕ) (t : Tag) (ts : List Tag) (c : ℕ) → Without t.class ts → is-deletion (cond (eqb t.class c) (Some (part text t)) (part-for text ts c)) ≡ (eqb t.class c && deletion (part text t) || is-deletion (part-for text ts c))
-tag-here text t ts c e = ⊎_elim here there (cases_eq t.class c)
+tag_here : (text : List ℕ) (t : Tag) (ts : List Tag) (c : ℕ) → Without t.class ts → is_deletion (cond (eqb t.class c) (Some (part text t)) (part_for text ts c)) ≡ (eqb t.class c && deletion (part text t) || is_deletion (part_for text ts c))
+tag_here text t ts c e = ⊎_elim here there (cases_eq t.class c)
   where
-    or-false : (b : Bool) → b ≡ (b || false)
-    or-false true = refl
-    or-false false = refl
+    or_false : (b : Bool) → b ≡ (b || false)
+    or_false true = refl
+    or_false false = refl
 
-    there : (t.class ≡ c → ⊥) → is-deletion (cond (eqb t.class c) (Some (part text t)) (part-for text ts c)) ≡ (eqb t.class c && deletion (part text t) || is-deletion (part-for text ts c))
+    there : (t.class ≡ c → ⊥) → is_deletion (cond (eqb t.class c) (Some (part text t)) (part_for text ts c)) ≡ (eqb t.class c && deletion (part text t) || is_deletion (part_for text ts c))
     there n = rw (ne_eqb t.class c n)
 
-    here : t.class ≡ c → is-deletion (cond (eqb t.class c) (Some (part text t)) (part-for text ts c)) ≡ (eqb t.class c && deletion (part text t) || is-deletion (part-for text ts c))
-    here h = rw (eq-eqb t.class c h, none-marked text c ts (subst (λ x. Without x ts) h e)) (or-false (deletion (part text t)))
+    here : t.class ≡ c → is_deletion (cond (eqb t.class c) (Some (part text t)) (part_for text ts c)) ≡ (eqb t.class c && deletion (part text t) || is_deletion (part_for text ts c))
+    here h = rw (eq-eqb t.class c h, none_marked text c ts (subst (λ x. Without x ts) h e)) (or_false (deletion (part text t)))
 
-deletes-more : (text : List ℕ) (t : Tag) (ts : List Tag) (cs : List ℕ) → Without t.class ts → deletes-tagged text (t ∷ ts) cs ≡ (among t.class cs && deletion (part text t) || deletes-tagged text ts cs)
-unfolding deletes-tagged among
-deletes-more text t ts [] e = refl
-deletes-more text t ts (c ∷ cs) e =
-    ap (λ b. b || deletes-tagged text (t ∷ ts) cs) (tag-here text t ts c e)
-    ∙ ap (λ b. (eqb t.class c && deletion (part text t) || is-deletion (part-for text ts c)) || b) (deletes-more text t ts cs e)
-    ∙ bools-more (eqb t.class c) (deletion (part text t)) (is-deletion (part-for text ts c)) (among t.class cs) (deletes-tagged text ts cs)
+deletes_more : (text : List ℕ) (t : Tag) (ts : List Tag) (cs : List ℕ) → Without t.class ts → deletes_tagged text (t ∷ ts) cs ≡ (among t.class cs && deletion (part text t) || deletes_tagged text ts cs)
+unfolding deletes_tagged among
+deletes_more text t ts [] e = refl
+deletes_more text t ts (c ∷ cs) e =
+    ap (λ b. b || deletes_tagged text (t ∷ ts) cs) (tag_here text t ts c e)
+    ∙ ap (λ b. (eqb t.class c && deletion (part text t) || is_deletion (part_for text ts c)) || b) (deletes_more text t ts cs e)
+    ∙ bools_more (eqb t.class c) (deletion (part text t)) (is_deletion (part_for text ts c)) (among t.class cs) (deletes_tagged text ts cs)
 
-none-deleted : (text : List ℕ) (cs : List ℕ) → deletes-tagged text [] cs ≡ false
-unfolding deletes-tagged
-none-deleted text [] = refl
-none-deleted text (c ∷ cs) = none-deleted text cs
+none_deleted : (text : List ℕ) (cs : List ℕ) → deletes_tagged text [] cs ≡ false
+unfolding deletes_tagged
+none_deleted text [] = refl
+none_deleted text (c ∷ cs) = none_deleted text cs
 
-items-tagged : (text : List ℕ) (ts : List Tag) → Distinct ts → deletes-tagged text ts item-classes ≡ items-deleted text ts
-unfolding items-deleted
-items-tagged text [] p = none-deleted text item-classes
-items-tagged text (t ∷ ts) p =
-    deletes-more text t ts item-classes p.1
-    ∙ ap (λ b. b && deletion (part text t) || deletes-tagged text ts item-classes) (items-among t.class)
-    ∙ ap (λ b. item-class t.class && deletion (part text t) || b) (items-tagged text ts p.2)
+items_tagged : (text : List ℕ) (ts : List Tag) → Distinct ts → deletes_tagged text ts item_classes ≡ items_deleted text ts
+unfolding items_deleted
+items_tagged text [] p = none_deleted text item_classes
+items_tagged text (t ∷ ts) p =
+    deletes_more text t ts item_classes p.1
+    ∙ ap (λ b. b && deletion (part text t) || deletes_tagged text ts item_classes) (items_among t.class)
+    ∙ ap (λ b. item_class t.class && deletion (part text t) || b) (items_tagged text ts p.2)
 
 -- the passes make the rules
-pub gone : (l : Label) (k : ℕ) → Distinct l.tags → deleted l.text l.tags k ≡ (is-deletion (marked l k) || item-class k && item-deletion l)
+pub gone : (l : Label) (k : ℕ) → Distinct l.tags → deleted l.text l.tags k ≡ (is_deletion (marked l k) || item_class k && item_deletion l)
 gone l k p =
-    deleted-tagged l.text l.tags k p
-    ∙ ap (λ o. is-deletion o || item-class k && items-deleted l.text l.tags) (sym (plain-marked l k p))
-    ∙ ap (λ b. is-deletion (marked l k) || item-class k && b) (sym (deletes-plain l item-classes p ∙ items-tagged l.text l.tags p))
+    deleted_tagged l.text l.tags k p
+    ∙ ap (λ o. is_deletion o || item_class k && items_deleted l.text l.tags) (sym (plain_marked l k p))
+    ∙ ap (λ b. is_deletion (marked l k) || item_class k && b) (sym (deletes_plain l item_classes p ∙ items_tagged l.text l.tags p))
 
-pub kept : (l : Label) (k : ℕ) (old : List ℕ) → Distinct l.tags → put-by l.text l.item.running l.tags k old ≡ rule-3 l k old
+pub kept : (l : Label) (k : ℕ) (old : List ℕ) → Distinct l.tags → put_by l.text l.item.running l.tags k old ≡ rule_3 l k old
 kept l k old p =
-    put-tagged l.text l.item.running l.tags k old p
-    ∙ ap (λ o. stored o (not (item-class k) || l.item.running) old) (sym (plain-marked l k p))
+    put_tagged l.text l.item.running l.tags k old p
+    ∙ ap (λ o. stored o (not (item_class k) || l.item.running) old) (sym (plain_marked l k p))
 
 -- one tag more
-pub deleted-push : (text : List ℕ) (ts : List Tag) (t : Tag) (k : ℕ) → deleted text (ts ++ (t ∷ [])) k ≡ (deleted text ts k || deletes-for text t k)
+pub deleted_push : (text : List ℕ) (ts : List Tag) (t : Tag) (k : ℕ) → deleted text (ts ++ (t ∷ [])) k ≡ (deleted text ts k || deletes_for text t k)
 unfolding deleted
-deleted-push text [] t k = or-false (deletes-for text t k)
+deleted_push text [] t k = or_false (deletes_for text t k)
   where
-    or-false : (b : Bool) → (b || false) ≡ b
-    or-false true = refl
-    or-false false = refl
-deleted-push text (x ∷ xs) t k = ap (λ b. deletes-for text x k || b) (deleted-push text xs t k) ∙ or_assoc (deletes-for text x k) (deleted text xs k) (deletes-for text t k)
+    or_false : (b : Bool) → (b || false) ≡ b
+    or_false true = refl
+    or_false false = refl
+deleted_push text (x ∷ xs) t k = ap (λ b. deletes_for text x k || b) (deleted_push text xs t k) ∙ or_assoc (deletes_for text x k) (deleted text xs k) (deletes_for text t k)
   where
     or_assoc : (a b c : Bool) → (a || (b || c)) ≡ (a || b || c)
     or_assoc true b c = refl
     or_assoc false b c = refl
 
-pub put-push : (text : List ℕ) (r : Bool) (ts : List Tag) (t : Tag) (k : ℕ) (old : List ℕ) → put-by text r (ts ++ (t ∷ [])) k old ≡ cond (stores-for text r t k) (part text t) (put-by text r ts k old)
-unfolding put-by
-put-push text r [] t k old = refl
-put-push text r (x ∷ xs) t k old = put-push text r xs t k (cond (stores-for text r x k) (part text x) old)
+pub put_push : (text : List ℕ) (r : Bool) (ts : List Tag) (t : Tag) (k : ℕ) (old : List ℕ) → put_by text r (ts ++ (t ∷ [])) k old ≡ cond (stores_for text r t k) (part text t) (put_by text r ts k old)
+unfolding put_by
+put_push text r [] t k old = refl
+put_push text r (x ∷ xs) t k old = put_push text r xs t k (cond (stores_for text r x k) (part text x) old)
 
-far-silent : (k : ℕ) → 64 ≤ k → silent k ≡ true
-far-silent k h = grind (arith, nat_tests)
+far_silent : (k : ℕ) → 64 ≤ k → silent k ≡ true
+far_silent k h = grind (arith, nat_tests)
 
-pub beyond : (text : List ℕ) (r : Bool) (ts : List Tag) (k : ℕ) (old : List ℕ) → Distinct ts → 64 ≤ k → put-by text r ts k old ≡ old
-beyond text r ts k old p h = put-none text r ts k old (never-silent ts k (far-silent k h) p)
+pub beyond : (text : List ℕ) (r : Bool) (ts : List Tag) (k : ℕ) (old : List ℕ) → Distinct ts → 64 ≤ k → put_by text r ts k old ≡ old
+beyond text r ts k old p h = put_none text r ts k old (never_silent ts k (far_silent k h) p)

@@ -6,14 +6,14 @@ use Rattle.std.proofs.lemmas.Bool.{cases_lt, cases_eq, lt-ltb, le-ltb, eq-eqb, n
 use Rattle.std.proofs.lemmas.Bool.Decides.{nat_tests}
 use Rattle.label.specs.declared.tag.ItemBits.{ItemBits}
 use Rattle.label.specs.declared.tag.Tag.{Tag}
-use Rattle.label.specs.Classes.{item-class}
-use Rattle.label.specs.Label.{Label, marked, is-deletion, item-deletion}
+use Rattle.label.specs.Classes.{item_class}
+use Rattle.label.specs.Label.{Label, marked, is_deletion, item_deletion}
 use Rattle.label.specs.Tags.{part, deletion}
-use Rattle.carrier.specs.Meaning.{told_text, told-tags, told-item, Plain}
-use Rattle.agreement.specs.Rules.{Table, emptied, breaks, stored, rule-1, rule-2, rule-3, by-rules, on-label}
-use Rattle.agreement.specs.Shown.{on-told}
-use Rattle.display.specs.Passes.{deletes-for, deleted, stores-for, put-by, row_of}
-use Rattle.display.proofs.Passes.{Distinct, distinct, deleted-push, put-push, gone, kept, beyond}
+use Rattle.carrier.specs.Meaning.{told_text, told_tags, told_item, Plain}
+use Rattle.agreement.specs.Rules.{Table, emptied, breaks, stored, rule_1, rule_2, rule_3, by_rules, on_label}
+use Rattle.agreement.specs.Shown.{on_told}
+use Rattle.display.specs.Passes.{deletes_for, deleted, stores_for, put_by, row_of}
+use Rattle.display.proofs.Passes.{Distinct, distinct, deleted_push, put_push, gone, kept, beyond}
 
 -- the Item classes
 pub clear_next : (lens entry : List ℕ) (c k : ℕ) → 1 ≤ c → c < length lens → get_or lens k 0 ≡ cond (leb 1 k && ltb k c) 0 (get_or entry k 0)
@@ -32,25 +32,25 @@ clear_next lens entry c k h b e = ⊎_elim here there (cases_eq k c)
     there : k ≢ c → get_or (set lens c 0) k 0 ≡ cond (leb 1 k && ltb k (c + 1)) 0 (get_or entry k 0)
     there n = get_or-set_other lens c k 0 0 n ∙ e ∙ ap (λ t. cond t 0 (get_or entry k 0)) (same n)
 
-pub item-bounds : (k n : ℕ) → 12 ≤ n → n ≤ 12 → (leb 1 k && ltb k n) ≡ item-class k
-item-bounds k n h g = grind (arith, nat_tests)
+pub item_bounds : (k n : ℕ) → 12 ≤ n → n ≤ 12 → (leb 1 k && ltb k n) ≡ item_class k
+item_bounds k n h g = grind (arith, nat_tests)
 
 pub past_end : (lens : List ℕ) (k : ℕ) → length lens ≤ k → get_or lens k 0 ≡ 0
 past_end [] k h = refl
 past_end (x ∷ xs) zero h = absurd (omega arith)
 past_end (x ∷ xs) (suc k) h = past_end xs k (omega arith)
 
-pub far-class : (lens : List ℕ) (class k : ℕ) (i : Bool) → length lens ≤ class → item-class class ≡ false → get_or lens k 0 ≡ cond (cond (item-class class) i (eqb class k)) 0 (get_or lens k 0)
-far-class lens class k i h e = ⊎_elim here there (cases_eq class k)
+pub far_class : (lens : List ℕ) (class k : ℕ) (i : Bool) → length lens ≤ class → item_class class ≡ false → get_or lens k 0 ≡ cond (cond (item_class class) i (eqb class k)) 0 (get_or lens k 0)
+far_class lens class k i h e = ⊎_elim here there (cases_eq class k)
   where
     zeros : (b : Bool) → ◌≡◌ {A = ℕ} 0 (cond b 0 0)
     zeros true = refl
     zeros false = refl
 
-    here : class ≡ k → get_or lens k 0 ≡ cond (cond (item-class class) i (eqb class k)) 0 (get_or lens k 0)
-    here q = let z : get_or lens k 0 ≡ 0 = past_end lens k (omega arith) in rw z (zeros (cond (item-class class) i (eqb class k)))
+    here : class ≡ k → get_or lens k 0 ≡ cond (cond (item_class class) i (eqb class k)) 0 (get_or lens k 0)
+    here q = let z : get_or lens k 0 ≡ 0 = past_end lens k (omega arith) in rw z (zeros (cond (item_class class) i (eqb class k)))
 
-    there : class ≢ k → get_or lens k 0 ≡ cond (cond (item-class class) i (eqb class k)) 0 (get_or lens k 0)
+    there : class ≢ k → get_or lens k 0 ≡ cond (cond (item_class class) i (eqb class k)) 0 (get_or lens k 0)
     there n = rw (e, ne_eqb class k n)
 
 -- one tag more
@@ -58,9 +58,9 @@ module _ (text : List ℕ) (tags : List Tag) (i : ℕ) (t : Tag) (d : Tag) (h : 
   more : take (i + 1) tags ≡ take i tags ++ (t ∷ [])
   more = take_more tags i d h ∙ ap (λ x. take i tags ++ (x ∷ [])) (sym is)
 
-  pub deleted-next : (k x y e : ℕ) → y ≡ cond (deleted text (take i tags) k) 0 e → x ≡ cond (deletes-for text t k) 0 y → x ≡ cond (deleted text (take (i + 1) tags) k) 0 e
-  deleted-next k x y e p q =
-      q ∙ ap (cond (deletes-for text t k) 0) p ∙ both (deleted text (take i tags) k) (deletes-for text t k) ∙ ap (λ b. cond b 0 e) (sym (deleted-push text (take i tags) t k) ∙ ap (λ ts. deleted text ts k) (sym more))
+  pub deleted_next : (k x y e : ℕ) → y ≡ cond (deleted text (take i tags) k) 0 e → x ≡ cond (deletes_for text t k) 0 y → x ≡ cond (deleted text (take (i + 1) tags) k) 0 e
+  deleted_next k x y e p q =
+      q ∙ ap (cond (deletes_for text t k) 0) p ∙ both (deleted text (take i tags) k) (deletes_for text t k) ∙ ap (λ b. cond b 0 e) (sym (deleted_push text (take i tags) t k) ∙ ap (λ ts. deleted text ts k) (sym more))
     where
       both : (a b : Bool) → cond b 0 (cond a 0 e) ≡ cond (a || b) 0 e
       both true true = refl
@@ -68,35 +68,35 @@ module _ (text : List ℕ) (tags : List Tag) (i : ℕ) (t : Tag) (d : Tag) (h : 
       both false true = refl
       both false false = refl
 
-  pub put_next : (r : Bool) (k : ℕ) (x y e : List ℕ) → y ≡ cond (ltb k 64) (put-by text r (take i tags) k e) e → x ≡ cond (ltb k 64) (cond (stores-for text r t k) (part text t) y) y
-      → x ≡ cond (ltb k 64) (put-by text r (take (i + 1) tags) k e) e
-  put_next r k x y e p q = q ∙ ap (λ z. cond (ltb k 64) (cond (stores-for text r t k) (part text t) z) z) p ∙ joined (ltb k 64) (stores-for text r t k) ∙ ap (λ z. cond (ltb k 64) z e) pushed
+  pub put_next : (r : Bool) (k : ℕ) (x y e : List ℕ) → y ≡ cond (ltb k 64) (put_by text r (take i tags) k e) e → x ≡ cond (ltb k 64) (cond (stores_for text r t k) (part text t) y) y
+      → x ≡ cond (ltb k 64) (put_by text r (take (i + 1) tags) k e) e
+  put_next r k x y e p q = q ∙ ap (λ z. cond (ltb k 64) (cond (stores_for text r t k) (part text t) z) z) p ∙ joined (ltb k 64) (stores_for text r t k) ∙ ap (λ z. cond (ltb k 64) z e) pushed
     where
-      pushed : cond (stores-for text r t k) (part text t) (put-by text r (take i tags) k e) ≡ put-by text r (take (i + 1) tags) k e
-      pushed = sym (put-push text r (take i tags) t k e) ∙ ap (λ ts. put-by text r ts k e) (sym more)
+      pushed : cond (stores_for text r t k) (part text t) (put_by text r (take i tags) k e) ≡ put_by text r (take (i + 1) tags) k e
+      pushed = sym (put_push text r (take i tags) t k e) ∙ ap (λ ts. put_by text r ts k e) (sym more)
 
-      joined : (b s : Bool) → cond b (cond s (part text t) (cond b (put-by text r (take i tags) k e) e)) (cond b (put-by text r (take i tags) k e) e) ≡ cond b (cond s (part text t) (put-by text r (take i tags) k e)) e
+      joined : (b s : Bool) → cond b (cond s (part text t) (cond b (put_by text r (take i tags) k e) e)) (cond b (put_by text r (take i tags) k e) e) ≡ cond b (cond s (part text t) (put_by text r (take i tags) k e)) e
       joined true s = refl
       joined false s = refl
 
-pub store_kept : (text : List ℕ) (r : Bool) (t : Tag) (k : ℕ) (marked x old : List ℕ) → marked ≡ part text t → true ≡ (not (deletion marked) && (not (item-class t.class) || r))
-    → x ≡ cond (ltb k 64) (cond (eqb t.class k) marked old) old → x ≡ cond (ltb k 64) (cond (stores-for text r t k) (part text t) old) old
+pub store_kept : (text : List ℕ) (r : Bool) (t : Tag) (k : ℕ) (marked x old : List ℕ) → marked ≡ part text t → true ≡ (not (deletion marked) && (not (item_class t.class) || r))
+    → x ≡ cond (ltb k 64) (cond (eqb t.class k) marked old) old → x ≡ cond (ltb k 64) (cond (stores_for text r t k) (part text t) old) old
 store_kept text r t k marked x old is kept put =
     put
     ∙ ap (λ p. cond (ltb k 64) (cond (eqb t.class k) p old) old) is
-    ∙ ap (λ s. cond (ltb k 64) (cond s (part text t) old) old) (and-true (eqb t.class k) ∙ ap (λ y. eqb t.class k && y) (kept ∙ ap (λ p. not (deletion p) && (not (item-class t.class) || r)) is))
+    ∙ ap (λ s. cond (ltb k 64) (cond s (part text t) old) old) (and_true (eqb t.class k) ∙ ap (λ y. eqb t.class k && y) (kept ∙ ap (λ p. not (deletion p) && (not (item_class t.class) || r)) is))
   where
-    and-true : (b : Bool) → b ≡ (b && true)
-    and-true true = refl
-    and-true false = refl
+    and_true : (b : Bool) → b ≡ (b && true)
+    and_true true = refl
+    and_true false = refl
 
-pub deleted-start : (text : List ℕ) (k n : ℕ) → n ≡ cond (deleted text [] k) 0 n
+pub deleted_start : (text : List ℕ) (k n : ℕ) → n ≡ cond (deleted text [] k) 0 n
 unfolding deleted
-deleted-start text k n = refl
+deleted_start text k n = refl
 
-pub put-start : (text : List ℕ) (r : Bool) (k : ℕ) (e : List ℕ) → e ≡ cond (ltb k 64) (put-by text r [] k e) e
-unfolding put-by
-put-start text r k e = same (ltb k 64)
+pub put_start : (text : List ℕ) (r : Bool) (k : ℕ) (e : List ℕ) → e ≡ cond (ltb k 64) (put_by text r [] k e) e
+unfolding put_by
+put_start text r k e = same (ltb k 64)
   where
     same : (b : Bool) → e ≡ cond b e e
     same true = refl
@@ -114,37 +114,37 @@ cut_small false n m e h = omega arith
 pub cleared : (rows : List (List ℕ)) (lens one : List ℕ) (b : Bool) (k : ℕ) → get_or one k 0 ≡ cond b 0 (get_or lens k 0) → row_of rows one k ≡ emptied b (row_of rows lens k)
 cleared rows lens one b k e = ap (λ n. take n (get_or rows k [])) e ∙ cut b (get_or lens k 0) (get_or rows k [])
 
-pub deleted-row : (l : Label) (rows : List (List ℕ)) (lens one : List ℕ) (k : ℕ) → Plain l.text l.tags → get_or one k 0 ≡ cond (deleted l.text l.tags k) 0 (get_or lens k 0)
-    → row_of rows one k ≡ rule-2 l k (row_of rows lens k)
-deleted-row l rows lens one k p e = cleared rows lens one (deleted l.text l.tags k) k e ∙ ap (λ b. emptied b (row_of rows lens k)) (gone l k (distinct (length l.text) l.tags p))
+pub deleted_row : (l : Label) (rows : List (List ℕ)) (lens one : List ℕ) (k : ℕ) → Plain l.text l.tags → get_or one k 0 ≡ cond (deleted l.text l.tags k) 0 (get_or lens k 0)
+    → row_of rows one k ≡ rule_2 l k (row_of rows lens k)
+deleted_row l rows lens one k p e = cleared rows lens one (deleted l.text l.tags k) k e ∙ ap (λ b. emptied b (row_of rows lens k)) (gone l k (distinct (length l.text) l.tags p))
 
-pub stored_row : (l : Label) (k : ℕ) (old x : List ℕ) → Plain l.text l.tags → x ≡ cond (ltb k 64) (put-by l.text l.item.running l.tags k old) old → x ≡ rule-3 l k old
+pub stored_row : (l : Label) (k : ℕ) (old x : List ℕ) → Plain l.text l.tags → x ≡ cond (ltb k 64) (put_by l.text l.item.running l.tags k old) old → x ≡ rule_3 l k old
 stored_row l k old x p e = e ∙ inside (cases_lt k 64) ∙ kept l k old d
   where
     d : Distinct l.tags
     d = distinct (length l.text) l.tags p
 
     new : List ℕ
-    new = put-by l.text l.item.running l.tags k old
+    new = put_by l.text l.item.running l.tags k old
 
     inside : (k < 64) ⊎ (64 ≤ k) → cond (ltb k 64) new old ≡ new
     inside (inl h) = ap (λ t. cond t new old) (lt-ltb k 64 h)
     inside (inr h) = ap (λ t. cond t new old) (le-ltb k 64 h) ∙ sym (beyond l.text l.item.running l.tags k old d h)
 
 -- a label with running 0 leaves nothing in Item
-pub idle : (last : Option ItemBits) (l : Label) (k : ℕ) (old : List ℕ) → item-class k ≡ true → l.item.running ≡ false → by-rules last l k old ≡ []
-idle last l k old i r = ap (λ b. stored (marked l k) (not b || l.item.running) second) i ∙ ap (λ b. stored (marked l k) b second) r ∙ not-stored (marked l k) ∙ emptied-nil
+pub idle : (last : Option ItemBits) (l : Label) (k : ℕ) (old : List ℕ) → item_class k ≡ true → l.item.running ≡ false → by_rules last l k old ≡ []
+idle last l k old i r = ap (λ b. stored (marked l k) (not b || l.item.running) second) i ∙ ap (λ b. stored (marked l k) b second) r ∙ not_stored (marked l k) ∙ emptied_nil
   where
     second : List ℕ
-    second = rule-2 l k (rule-1 last l k old)
+    second = rule_2 l k (rule_1 last l k old)
 
-    not-stored : (o : Option (List ℕ)) → stored o false second ≡ second
-    not-stored None = refl
-    not-stored (Some p) = ap (λ b. cond b p second) (and-false (not (deletion p)))
+    not_stored : (o : Option (List ℕ)) → stored o false second ≡ second
+    not_stored None = refl
+    not_stored (Some p) = ap (λ b. cond b p second) (and_false (not (deletion p)))
       where
-        and-false : (b : Bool) → (b && false) ≡ false
-        and-false true = refl
-        and-false false = refl
+        and_false : (b : Bool) → (b && false) ≡ false
+        and_false true = refl
+        and_false false = refl
 
     breaking : (o : Option ItemBits) → breaks o l.item ≡ true
     breaking None = refl
@@ -154,17 +154,17 @@ idle last l k old i r = ap (λ b. stored (marked l k) (not b || l.item.running) 
     nil true = refl
     nil false = refl
 
-    emptied-nil : second ≡ []
-    emptied-nil =
-        ap (λ b. rule-2 l k (emptied (b && breaks last l.item) old)) i
-        ∙ ap (λ b. rule-2 l k (emptied b old)) (breaking last)
-        ∙ nil (is-deletion (marked l k) || item-class k && item-deletion l)
+    emptied_nil : second ≡ []
+    emptied_nil =
+        ap (λ b. rule_2 l k (emptied (b && breaks last l.item) old)) i
+        ∙ ap (λ b. rule_2 l k (emptied b old)) (breaking last)
+        ∙ nil (is_deletion (marked l k) || item_class k && item_deletion l)
 
 -- the table after the rules on the complete label
-pub table-told : (d : Table) (o : Option Label) (row : ℕ → List ℕ) (text : List ℕ) (tags : List Tag) (item : ItemBits) → is_some o ≡ true → text ≡ told_text o → tags ≡ told-tags o → item ≡ told-item o
-    → ((k : ℕ) → row k ≡ by-rules d.last (record { text = text; tags = tags; item = item }) k (d.row k))
-    → ◌≡◌ {A = Table} (record { row = row; last = Some item }) (on-told d o)
-table-told d None row text tags item s a b e h = absurd (let z : ◌≡◌ {A = ℕ} 0 1 = cc in omega arith)
-table-told d (Some l) row text tags item s a b e h =
-    let first : ◌≡◌ {A = Table} (record { row = row; last = Some item }) (on-label d (record { text = text; tags = tags; item = item })) = λ i. record { row = λ k. h k i; last = Some item } in
-    first ∙ (λ i. on-label d (record { text = a i; tags = b i; item = e i }))
+pub table_told : (d : Table) (o : Option Label) (row : ℕ → List ℕ) (text : List ℕ) (tags : List Tag) (item : ItemBits) → is_some o ≡ true → text ≡ told_text o → tags ≡ told_tags o → item ≡ told_item o
+    → ((k : ℕ) → row k ≡ by_rules d.last (record { text = text; tags = tags; item = item }) k (d.row k))
+    → ◌≡◌ {A = Table} (record { row = row; last = Some item }) (on_told d o)
+table_told d None row text tags item s a b e h = absurd (let z : ◌≡◌ {A = ℕ} 0 1 = cc in omega arith)
+table_told d (Some l) row text tags item s a b e h =
+    let first : ◌≡◌ {A = Table} (record { row = row; last = Some item }) (on_label d (record { text = text; tags = tags; item = item })) = λ i. record { row = λ k. h k i; last = Some item } in
+    first ∙ (λ i. on_label d (record { text = a i; tags = b i; item = e i }))

@@ -4,9 +4,9 @@ use Rattle.std.proofs.lemmas.List.{take_all, take_at, take_more}
 use Rattle.std.proofs.lemmas.Bool.{cases_lt, cases_eq, lt-ltb, le-ltb, eq-eqb, ne_eqb}
 use Rattle.display.specs.Passes.{row_of}
 
-take-either : (xs : List ℕ) (a b : ℕ) → (a ≡ b) ⊎ ((length xs ≤ a) × (length xs ≤ b)) → take a xs ≡ take b xs
-take-either xs a b (inl e) = ap (λ n. take n xs) e
-take-either xs a b (inr h) = take_all a xs h.0 ∙ sym (take_all b xs h.1)
+take_either : (xs : List ℕ) (a b : ℕ) → (a ≡ b) ⊎ ((length xs ≤ a) × (length xs ≤ b)) → take a xs ≡ take b xs
+take_either xs a b (inl e) = ap (λ n. take n xs) e
+take_either xs a b (inr h) = take_all a xs h.0 ∙ sym (take_all b xs h.1)
 
 drop_past : (xs : List ℕ) (a : ℕ) → length xs ≤ a → drop a xs ≡ []
 drop_past xs a h = nil (drop a xs) (length-drop a xs ∙ omega arith)
@@ -23,11 +23,11 @@ clipped xs a e s n p q = ⊎_elim inside past (cases_lt a (length xs))
     inside h =
         let d = length-drop a xs in
         let t : s ≡ a = omega arith in
-        ap (λ x. take (n - s) (drop x xs)) t ∙ take-either (drop a xs) (n - s) (e + 1) (⊎_elim (λ g. inl (omega arith)) (λ g. inr (omega arith, omega arith)) (cases_lt (a + e) (length xs)))
+        ap (λ x. take (n - s) (drop x xs)) t ∙ take_either (drop a xs) (n - s) (e + 1) (⊎_elim (λ g. inl (omega arith)) (λ g. inr (omega arith, omega arith)) (cases_lt (a + e) (length xs)))
 
     past : length xs ≤ a → take (n - s) (drop s xs) ≡ take (e + 1) (drop a xs)
     past h =
-        ap (take (n - s)) (drop_past xs s (omega arith) ∙ sym (drop_past xs a h)) ∙ take-either (drop a xs) (n - s) (e + 1) (let d = length-drop a xs in inr (omega arith, omega arith))
+        ap (take (n - s)) (drop_past xs s (omega arith) ∙ sym (drop_past xs a h)) ∙ take_either (drop a xs) (n - s) (e + 1) (let d = length-drop a xs in inr (omega arith, omega arith))
 
 cond_same : (b : Bool) (x : List ℕ) → cond b x x ≡ x
 cond_same true x = refl
@@ -44,8 +44,8 @@ module _ (rows : List (List ℕ)) (lens : List ℕ) (c : ℕ) (text rest x : Lis
   elsewhere : (k : ℕ) → k ≢ c → row_of (set rows c x) (set lens c (length text)) k ≡ row_of rows lens k
   elsewhere k ne = rw (get_or-set_other, get_or-set_other)
 
-  pub put-row : (k : ℕ) → row_of (set rows c x) (set lens c (length text)) k ≡ cond (ltb k 64) (cond (eqb c k) text (row_of rows lens k)) (row_of rows lens k)
-  put-row k = ⊎_elim (λ d. rw (lt-ltb k 64 (omega arith), eq-eqb c k d, ← d) here) (λ ne. rw (ne_eqb c k ne) (elsewhere k (λ d. ne (sym d)) ∙ sym (cond_same (ltb k 64) (row_of rows lens k)))) (cases_eq c k)
+  pub put_row : (k : ℕ) → row_of (set rows c x) (set lens c (length text)) k ≡ cond (ltb k 64) (cond (eqb c k) text (row_of rows lens k)) (row_of rows lens k)
+  put_row k = ⊎_elim (λ d. rw (lt-ltb k 64 (omega arith), eq-eqb c k d, ← d) here) (λ ne. rw (ne_eqb c k ne) (elsewhere k (λ d. ne (sym d)) ∙ sym (cond_same (ltb k 64) (row_of rows lens k)))) (cases_eq c k)
 
   pub put_small : length text ≤ 128 → ((k : ℕ) → get_or lens k 0 ≤ 128) → (k : ℕ) → get_or (set lens c (length text)) k 0 ≤ 128
   put_small s f k =
@@ -54,12 +54,12 @@ module _ (rows : List (List ℕ)) (lens : List ℕ) (c : ℕ) (text rest x : Lis
 pub short : (xs : List ℕ) (a n : ℕ) → length (take n (drop a xs)) ≤ length xs
 short xs a n = simp (length-take, length-drop) (omega arith)
 
-pub zeros-small : (n k : ℕ) → get_or (replicate n 0) k 0 ≤ 128
-zeros-small zero k = omega arith
-zeros-small (suc n) zero = omega arith
-zeros-small (suc n) (suc k) = zeros-small n k
+pub zeros_small : (n k : ℕ) → get_or (replicate n 0) k 0 ≤ 128
+zeros_small zero k = omega arith
+zeros_small (suc n) zero = omega arith
+zeros_small (suc n) (suc k) = zeros_small n k
 
-pub zeros-none : (n k : ℕ) (row : List ℕ) → take (get_or (replicate n 0) k 0) row ≡ []
-zeros-none zero k row = refl
-zeros-none (suc n) zero row = refl
-zeros-none (suc n) (suc k) row = zeros-none n k row
+pub zeros_none : (n k : ℕ) (row : List ℕ) → take (get_or (replicate n 0) k 0) row ≡ []
+zeros_none zero k row = refl
+zeros_none (suc n) zero row = refl
+zeros_none (suc n) (suc k) row = zeros_none n k row

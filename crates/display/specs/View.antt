@@ -9,5 +9,5 @@ use Rattle.display.specs.Held.{held}
 abbrev pub view : {C S : Type 0} → (C → S) → Display C → Shown S
 view state d = record { carrier = state d.carrier; table = record { row = held d.table; last = d.last } }
 
-abbrev pub label-in : Complete → Label
-label-in l = record { text = l.text.now; tags = l.tags.now; item = l.item }
+abbrev pub label_in : Complete → Label
+label_in l = record { text = l.text.now; tags = l.tags.now; item = l.item }

@@ -2,8 +2,8 @@ ghost use Rattle.std.specs.Prelude.{◌≡◌, true, ◌++◌, length, drop, is_
 ghost use Rattle.label.specs.Drafts.{done, left};
 ghost use Rattle.label.specs.Refusals.{Own, reading};
 ghost use Rattle.carrier.specs.Meaning.{reply};
-ghost use Rattle.agreement.specs.Reading.{read-refusal};
-ghost use Rattle.agreement.specs.Shown.{display-step, new-display, on-told};
+ghost use Rattle.agreement.specs.Reading.{read_refusal};
+ghost use Rattle.agreement.specs.Shown.{display_step, new_display, on_told};
 ghost use Rattle.display.specs.View.{view};
 
 use crate::complete::Complete;
@@ -18,7 +18,7 @@ use label::refusal::Refusal;
 impl<C: Carrier> Display<C> {
     // A display that holds nothing.
     pub fn new() -> Self
-        ensures { view state result ≡ new-display meaning }
+        ensures { view state result ≡ new_display meaning }
     {
         Display {
             carrier: C::new(),
@@ -30,7 +30,7 @@ impl<C: Carrier> Display<C> {
     // Takes a frame.
     pub fn take(&mut self, frame: &[u8]) -> Result<Answer, Refusal>
         ensures reply { result ≡ reply (meaning.step (state self.old.carrier) frame.now) }
-        ensures shown { view state self.new ≡ display-step meaning (view state self.old) frame.now }
+        ensures shown { view state self.new ≡ display_step meaning (view state self.old) frame.now }
     {
         let answer = self.carrier.take(frame)?;
         if let Answer::Complete = answer {
@@ -43,7 +43,7 @@ impl<C: Carrier> Display<C> {
     fn show(&mut self)
         requires { is_some (meaning.told (state self.old.carrier)) ≡ true }
         ensures carrier { self.new.carrier ≡ self.old.carrier }
-        ensures table { (view state self.new).table ≡ on-told (view state self.old).table (meaning.told (state self.old.carrier)) }
+        ensures table { (view state self.new).table ≡ on_told (view state self.old).table (meaning.told (state self.old.carrier)) }
     {
         let item = self.carrier.item();
         let label = Complete {
@@ -56,9 +56,9 @@ impl<C: Carrier> Display<C> {
     }
     // Copies what is held for a class to the buffer's start, and returns its length, 0 for nothing.
     pub fn read(&self, class: u8, buf: &mut [u8]) -> Result<usize, Refusal>
-        ensures reply { result ≡ done (read-refusal (view state self.now).table class (length buf.old)) (length ((view state self.now).table.row class)) }
+        ensures reply { result ≡ done (read_refusal (view state self.now).table class (length buf.old)) (length ((view state self.now).table.row class)) }
         ensures own { Own reading result }
-        ensures buffer { buf.new ≡ left (read-refusal (view state self.now).table class (length buf.old)) ((view state self.now).table.row class ++ drop (length ((view state self.now).table.row class)) buf.old) buf.old }
+        ensures buffer { buf.new ≡ left (read_refusal (view state self.now).table class (length buf.old)) ((view state self.now).table.row class ++ drop (length ((view state self.now).table.row class)) buf.old) buf.old }
     {
         if is_silent(class) {
             return Err(Refusal::UnreadableClass);
@@ -75,7 +75,7 @@ impl<C: Carrier> Display<C> {
 impl<C: Carrier + Drop> Display<C> {
     // Makes the display new.
     pub fn retune(&mut self)
-        ensures { view state self.new ≡ new-display meaning }
+        ensures { view state self.new ≡ new_display meaning }
     {
         *self = Display::new();
     }

@@ -1,15 +1,15 @@
 ghost use Rattle.std.specs.Prelude.{◌≡◌, ℕ, ◌≤◌, not, ◌&&◌, ◌||◌, ◌++◌, length, take, drop, if◌then◌else◌, ◌==◌, nat_eq, nat_lt, slice_index};
-ghost use Rattle.label.specs.Classes.{item-class};
+ghost use Rattle.label.specs.Classes.{item_class};
 ghost use Rattle.label.specs.Tags.{part, deletion};
 ghost use Rattle.agreement.specs.Rules.{breaks};
-ghost use Rattle.display.specs.Passes.{row_of, deletes-for, deleted, stores-for, put-by};
+ghost use Rattle.display.specs.Passes.{row_of, deletes_for, deleted, stores_for, put_by};
 
 use label::category::Category;
 use label::part::is_deletion;
 use label::tag::{ItemBits, Tag};
 
 fn is_item(class: u8) -> bool
-    ensures { result ≡ item-class class }
+    ensures { result ≡ item_class class }
 {
     match Category::of(class) {
         Some(Category::Item) => true,
@@ -39,7 +39,7 @@ fn marked_part(text: &[u8], tag: Tag) -> &[u8]
 
 // Empties all Item classes.
 fn clear_items(lens: &mut [usize; 64])
-    ensures { (k : ℕ) → slice_index lens.new k ≡ (if item-class k then 0 else slice_index lens.old k) }
+    ensures { (k : ℕ) → slice_index lens.new k ≡ (if item_class k then 0 else slice_index lens.old k) }
 {
     for c in 1..12 {
         lens[c] = 0;
@@ -48,7 +48,7 @@ fn clear_items(lens: &mut [usize; 64])
 
 // What a deletion in a class empties.
 fn clear_for(lens: &mut [usize; 64], class: u8)
-    ensures { (k : ℕ) → slice_index lens.new k ≡ (if (if item-class class then item-class k else (class == k)) then 0 else slice_index lens.old k) }
+    ensures { (k : ℕ) → slice_index lens.new k ≡ (if (if item_class class then item_class k else (class == k)) then 0 else slice_index lens.old k) }
 {
     if is_item(class) {
         clear_items(lens); // the old song as a whole
@@ -58,7 +58,7 @@ fn clear_for(lens: &mut [usize; 64], class: u8)
 }
 
 fn delete_tag(lens: &mut [usize; 64], text: &[u8], tag: Tag)
-    ensures { (k : ℕ) → slice_index lens.new k ≡ (if deletes-for text.now tag k then 0 else slice_index lens.old k) }
+    ensures { (k : ℕ) → slice_index lens.new k ≡ (if deletes_for text.now tag k then 0 else slice_index lens.old k) }
 {
     if is_deletion(marked_part(text, tag)) {
         clear_for(lens, tag.class);
@@ -88,7 +88,7 @@ fn put(rows: &mut [[u8; 128]; 64], lens: &mut [usize; 64], class: u8, text: &[u8
 
 // Whether a part is stored: no deletion, and of an Item class only while the item runs.
 fn is_kept(text: &[u8], class: u8, running: bool) -> bool
-    ensures { result ≡ (not (deletion text.now) && (not (item-class class) || running)) }
+    ensures { result ≡ (not (deletion text.now) && (not (item_class class) || running)) }
 {
     !is_deletion(text) && (!is_item(class) || running)
 }
@@ -101,7 +101,7 @@ fn store_tag(
     running: bool,
 )
     requires { length text.now ≤ 128 }
-    ensures row { (k : ℕ) → row_of rows.new lens.new k ≡ (if nat_lt k 64 then (if stores-for text.now running tag k then part text.now tag else row_of rows.old lens.old k) else row_of rows.old lens.old k) }
+    ensures row { (k : ℕ) → row_of rows.new lens.new k ≡ (if nat_lt k 64 then (if stores_for text.now running tag k then part text.now tag else row_of rows.old lens.old k) else row_of rows.old lens.old k) }
     ensures small { ((k : ℕ) → slice_index lens.old k ≤ 128) → (k : ℕ) → slice_index lens.new k ≤ 128 }
 {
     let marked = marked_part(text, tag);
@@ -112,7 +112,7 @@ fn store_tag(
 
 // Empties all Item classes at a label of another item.
 pub(crate) fn clear_other_item(lens: &mut [usize; 64], last: Option<ItemBits>, item: ItemBits)
-    ensures { (k : ℕ) → slice_index lens.new k ≡ (if item-class k && breaks last item then 0 else slice_index lens.old k) }
+    ensures { (k : ℕ) → slice_index lens.new k ≡ (if item_class k && breaks last item then 0 else slice_index lens.old k) }
 {
     if is_other_item(last, item) {
         clear_items(lens);
@@ -137,7 +137,7 @@ pub(crate) fn store_all(
     running: bool,
 )
     requires { length text.now ≤ 128 }
-    ensures row { (k : ℕ) → row_of rows.new lens.new k ≡ (if nat_lt k 64 then put-by text.now running tags.now k (row_of rows.old lens.old k) else row_of rows.old lens.old k) }
+    ensures row { (k : ℕ) → row_of rows.new lens.new k ≡ (if nat_lt k 64 then put_by text.now running tags.now k (row_of rows.old lens.old k) else row_of rows.old lens.old k) }
     ensures small { ((k : ℕ) → slice_index lens.old k ≤ 128) → (k : ℕ) → slice_index lens.new k ≤ 128 }
 {
     for tag in tags {

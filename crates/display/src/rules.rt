@@ -1,8 +1,8 @@
 ghost use Rattle.std.specs.Prelude.{◌≡◌, ℕ, ◌<◌, ◌≤◌, [], length};
 ghost use Rattle.carrier.specs.Meaning.{Plain};
-ghost use Rattle.agreement.specs.Rules.{rule-1, rule-2, rule-3, by-rules};
+ghost use Rattle.agreement.specs.Rules.{rule_1, rule_2, rule_3, by_rules};
 ghost use Rattle.display.specs.Held.{held};
-ghost use Rattle.display.specs.View.{label-in};
+ghost use Rattle.display.specs.View.{label_in};
 
 use crate::complete::Complete;
 use crate::rows::{clear_other_item, delete_all, front, store_all};
@@ -21,24 +21,24 @@ impl ClassTable {
 
     // 1. If running is 0, or the toggle is not that of the last complete label, all Item classes are emptied.
     fn rule_1(&mut self, last: Option<ItemBits>, label: &Complete)
-        ensures { (k : ℕ) → held self.new k ≡ rule-1 last (label-in label.now) k (held self.old k) }
+        ensures { (k : ℕ) → held self.new k ≡ rule_1 last (label_in label.now) k (held self.old k) }
     {
         clear_other_item(&mut self.lens, last, label.item);
     }
 
     // 2. Deletions empty their class; one in Item empties all Item classes.
     fn rule_2(&mut self, label: &Complete)
-        requires { Plain (label-in label.now).text (label-in label.now).tags }
-        ensures { (k : ℕ) → held self.new k ≡ rule-2 (label-in label.now) k (held self.old k) }
+        requires { Plain (label_in label.now).text (label_in label.now).tags }
+        ensures { (k : ℕ) → held self.new k ≡ rule_2 (label_in label.now) k (held self.old k) }
     {
         delete_all(&mut self.lens, label.text, label.tags);
     }
 
     // 3. The other parts are stored, Item parts only while running is 1.
     fn rule_3(&mut self, label: &Complete)
-        requires plain { Plain (label-in label.now).text (label-in label.now).tags }
-        requires short { length (label-in label.now).text ≤ 128 }
-        ensures { (k : ℕ) → held self.new k ≡ rule-3 (label-in label.now) k (held self.old k) }
+        requires plain { Plain (label_in label.now).text (label_in label.now).tags }
+        requires short { length (label_in label.now).text ≤ 128 }
+        ensures { (k : ℕ) → held self.new k ≡ rule_3 (label_in label.now) k (held self.old k) }
     {
         store_all(
             &mut self.rows,
@@ -51,9 +51,9 @@ impl ClassTable {
 
     // The rules on a complete label.
     pub(crate) fn apply(&mut self, last: Option<ItemBits>, label: &Complete)
-        requires plain { Plain (label-in label.now).text (label-in label.now).tags }
-        requires short { length (label-in label.now).text ≤ 128 }
-        ensures { (k : ℕ) → held self.new k ≡ by-rules last (label-in label.now) k (held self.old k) }
+        requires plain { Plain (label_in label.now).text (label_in label.now).tags }
+        requires short { length (label_in label.now).text ≤ 128 }
+        ensures { (k : ℕ) → held self.new k ≡ by_rules last (label_in label.now) k (held self.old k) }
     {
         self.rule_1(last, label);
         self.rule_2(label);

@@ -1,5 +1,5 @@
 ghost use Rattle.std.specs.Prelude.{◌≡◌};
-ghost use Rattle.carrier.specs.Meaning.{told_text, told-tags, told-item};
+ghost use Rattle.carrier.specs.Meaning.{told_text, told_tags, told_item};
 ghost use Rattle.display.specs.View.{view};
 
 use crate::shown::Display;
@@ -17,14 +17,14 @@ impl<C: Carrier> Display<C> {
 
     // Its tags, or none.
     pub fn label_tags(&self) -> &[Tag]
-        ensures { result.now ≡ told-tags (meaning.told (view state self.now).carrier) }
+        ensures { result.now ≡ told_tags (meaning.told (view state self.now).carrier) }
     {
         self.carrier.tags()
     }
 
     // Its item bits, or zeros.
     pub fn label_item(&self) -> ItemBits
-        ensures { result ≡ told-item (meaning.told (view state self.now).carrier) }
+        ensures { result ≡ told_item (meaning.told (view state self.now).carrier) }
     {
         self.carrier.item()
     }

@@ -6,10 +6,10 @@ use Rattle.label.specs.declared.refusal.Refusal.{Refusal}
 use Rattle.label.specs.declared.refusal.Refusal.TheVariants.{NoSuchFrame}
 use Rattle.label.specs.Drafts.{done, left}
 use Rattle.carrier.specs.Writing.{place}
-use Rattle.fm.specs.Frames.{fm-frame, fm-writing}
-use Rattle.dab.specs.Frames.{text-body, command-body, dab-writing}
-use Rattle.edge.specs.Frames.{service, sill-on-fm, sill-on-dab, written, in_row}
-use Rattle.edge.specs.Labels.{sill, sill-outline, sill-label}
+use Rattle.fm.specs.Frames.{fm_frame, fm_writing}
+use Rattle.dab.specs.Frames.{text_body, command_body, dab_writing}
+use Rattle.edge.specs.Frames.{service, sill_on_fm, sill_on_dab, written, in_row}
+use Rattle.edge.specs.Labels.{sill, sill_outline, sill_label}
 
 -- what a frame leaves in a space that is its place and no more
 pub laid : (x : Option Refusal) (new old out : List ℕ) → ◌≡◌ {A = Result (Unit {0}) Refusal} (done x tt) (Ok tt) → out ≡ left x (new ++ []) old → ◌≡◌ {A = Result (List ℕ) Refusal} (Ok out) (done x new)
@@ -21,25 +21,25 @@ agreeing : (b : Bool) (x y : List ℕ) → (b ≡ false → x ≡ y) → done (c
 agreeing true x y h = refl
 agreeing false x y h = ap Ok (h refl)
 
-fm-row : (n : ℕ) → n < 5 → fm-frame sill-label false service n ≡ get_or sill-on-fm n []
-unfolding fm-frame
-fm-row zero h = refl
-fm-row (suc zero) h = refl
-fm-row (suc (suc zero)) h = refl
-fm-row (suc (suc (suc zero))) h = refl
-fm-row (suc (suc (suc (suc zero)))) h = refl
-fm-row (suc (suc (suc (suc (suc n))))) h = absurd (omega arith)
+fm_row : (n : ℕ) → n < 5 → fm_frame sill_label false service n ≡ get_or sill_on_fm n []
+unfolding fm_frame
+fm_row zero h = refl
+fm_row (suc zero) h = refl
+fm_row (suc (suc zero)) h = refl
+fm_row (suc (suc (suc zero))) h = refl
+fm_row (suc (suc (suc (suc zero)))) h = refl
+fm_row (suc (suc (suc (suc (suc n))))) h = absurd (omega arith)
 
-dab-row : (n : ℕ) → n < 2 → dab-writing.frame sill-label false service n ≡ get_or sill-on-dab n []
-unfolding text-body command-body xor
-dab-row zero h = refl
-dab-row (suc zero) h = refl
-dab-row (suc (suc n)) h = absurd (omega arith)
+dab_row : (n : ℕ) → n < 2 → dab_writing.frame sill_label false service n ≡ get_or sill_on_dab n []
+unfolding text_body command_body xor
+dab_row zero h = refl
+dab_row (suc zero) h = refl
+dab_row (suc (suc n)) h = absurd (omega arith)
 
-pub on-fm : (n : ℕ) → written fm-writing sill-outline sill false service n ≡ in_row sill-on-fm n
+pub on_fm : (n : ℕ) → written fm_writing sill_outline sill false service n ≡ in_row sill_on_fm n
 unfolding written
-on-fm n = agreeing (leb 5 n) _ _ (λ h. ap place (fm-row n (leb-false 5 n h)))
+on_fm n = agreeing (leb 5 n) _ _ (λ h. ap place (fm_row n (leb-false 5 n h)))
 
-pub on-dab : (n : ℕ) → written dab-writing sill-outline sill false service n ≡ in_row sill-on-dab n
+pub on_dab : (n : ℕ) → written dab_writing sill_outline sill false service n ≡ in_row sill_on_dab n
 unfolding written
-on-dab n = agreeing (leb 2 n) _ _ (λ h. ap place (dab-row n (leb-false 2 n h)))
+on_dab n = agreeing (leb 2 n) _ _ (λ h. ap place (dab_row n (leb-false 2 n h)))

@@ -1,6 +1,6 @@
 ghost use Rattle.std.specs.Prelude.{◌≡◌};
 ghost use Rattle.label.specs.Drafts.{done};
-ghost use Rattle.edge.specs.Drafting.{three-bytes, two-tags, beside};
+ghost use Rattle.edge.specs.Drafting.{three_bytes, two_tags, beside};
 
 use crate::sill::SILL;
 use crate::table::worked_labels;
@@ -11,7 +11,7 @@ use label::tag::Tag;
 
 // Tags three bytes of the sill's text, in class 56.
 pub fn tag_three_bytes(start: u8) -> Result<(), Refusal>
-    ensures { result ≡ done (three-bytes start) tt }
+    ensures { result ≡ done (three_bytes start) tt }
 {
     let mut draft = Draft::open(SILL)?;
     draft.tag(Tag {
@@ -23,7 +23,7 @@ pub fn tag_three_bytes(start: u8) -> Result<(), Refusal>
 
 // Tags two parts of it, one after the other.
 fn tag_two(first: Tag, second: Tag) -> Result<(), Refusal>
-    ensures { result ≡ done (two-tags first second) tt }
+    ensures { result ≡ done (two_tags first second) tt }
 {
     let mut draft = Draft::open(SILL)?;
     draft.tag(first)?;

@@ -1,8 +1,8 @@
 ghost use Rattle.std.specs.Prelude.{◌≡◌};
-ghost use Rattle.label.specs.Drafts.{sealed-outline};
+ghost use Rattle.label.specs.Drafts.{sealed_outline};
 ghost use Rattle.edge.specs.Drafting.{SealedAs};
-ghost use Rattle.edge.specs.Frames.{sill-on-fm, sill-on-dab, written, in_row};
-ghost use Rattle.edge.specs.Labels.{sill-outline};
+ghost use Rattle.edge.specs.Frames.{sill_on_fm, sill_on_dab, written, in_row};
+ghost use Rattle.edge.specs.Labels.{sill_outline};
 
 use crate::table::worked_labels;
 use carrier::carrier::Carrier;
@@ -18,7 +18,7 @@ pub(crate) const SILL: &[u8; 10] = b"Sill 2.4 m";
 
 // The sill's label, ready to be sent.
 pub fn sealed() -> Result<Sealed, Refusal>
-    ensures { SealedAs sill-outline result }
+    ensures { SealedAs sill_outline result }
 {
     let mut draft = Draft::open(SILL)?;
     draft.tag(Tag {
@@ -37,7 +37,7 @@ fn in_new_place<C: Carrier>(
     service: u16,
     number: usize,
 ) -> Result<[u8; 21], Refusal>
-    ensures { result ≡ written meaning.writing (sealed-outline label.now) text.now toggle service number }
+    ensures { result ≡ written meaning.writing (sealed_outline label.now) text.now toggle service number }
 {
     let mut place = [0; PLACE];
     let item = ItemBits {
@@ -50,7 +50,7 @@ fn in_new_place<C: Carrier>(
 
 // A frame of the sill's label on FM: the table's row of that number.
 pub fn frame_on_fm(number: usize) -> Result<[u8; 21], Refusal>
-    ensures { result ≡ in_row sill-on-fm number }
+    ensures { result ≡ in_row sill_on_fm number }
 {
     worked_labels();
     in_new_place::<Fm>(&sealed()?, SILL, false, 0x1234, number)
@@ -58,7 +58,7 @@ pub fn frame_on_fm(number: usize) -> Result<[u8; 21], Refusal>
 
 // A frame of it on DAB, its check included.
 pub fn frame_on_dab(number: usize) -> Result<[u8; 21], Refusal>
-    ensures { result ≡ in_row sill-on-dab number }
+    ensures { result ≡ in_row sill_on_dab number }
 {
     worked_labels();
     in_new_place::<Dab>(&sealed()?, SILL, false, 0x1234, number)

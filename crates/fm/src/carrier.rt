@@ -1,11 +1,11 @@
 ghost use Rattle.std.specs.Prelude.{◌≡◌, ◌<◌, true};
-ghost use Rattle.label.specs.Drafts.{sealed-outline, matches};
+ghost use Rattle.label.specs.Drafts.{sealed_outline, matches};
 ghost use Rattle.label.specs.Label.{label_of};
 ghost use Rattle.carrier.specs.Writing.{place};
-ghost use Rattle.fm.specs.Frames.{fm-frame, fm-writing};
+ghost use Rattle.fm.specs.Frames.{fm_frame, fm_writing};
 ghost use Rattle.fm.specs.Taking.{FmState, fm};
-ghost use Rattle.fm.specs.Views.{fm-view};
-ghost use Rattle.fm.specs.Laws.{fm-lawful};
+ghost use Rattle.fm.specs.Views.{fm_view};
+ghost use Rattle.fm.specs.Laws.{fm_lawful};
 
 use crate::fm::Fm;
 use crate::frame::{announcing, last, tags_group, text_segment};
@@ -28,10 +28,10 @@ fn frame(
     service: u16,
     number: usize,
 ) -> [u8; 8]
-    requires fit { fm-writing.fits (sealed-outline label.now) ≡ true }
-    requires over { matches (sealed-outline label.now) text.now ≡ true }
-    requires one { number < fm-writing.count (sealed-outline label.now) }
-    ensures { result ≡ fm-frame (label_of (sealed-outline label.now) item text.now) toggle service number }
+    requires fit { fm_writing.fits (sealed_outline label.now) ≡ true }
+    requires over { matches (sealed_outline label.now) text.now ≡ true }
+    requires one { number < fm_writing.count (sealed_outline label.now) }
+    ensures { result ≡ fm_frame (label_of (sealed_outline label.now) item text.now) toggle service number }
 {
     let last = last(text.len());
     if number <= last {
@@ -52,10 +52,10 @@ fn lay(
     service: u16,
     number: usize,
 ) -> [u8; 21]
-    requires fit { fm-writing.fits (sealed-outline label.now) ≡ true }
-    requires over { matches (sealed-outline label.now) text.now ≡ true }
-    requires one { number < fm-writing.count (sealed-outline label.now) }
-    ensures { result ≡ place (fm-frame (label_of (sealed-outline label.now) item text.now) toggle service number) }
+    requires fit { fm_writing.fits (sealed_outline label.now) ≡ true }
+    requires over { matches (sealed_outline label.now) text.now ≡ true }
+    requires one { number < fm_writing.count (sealed_outline label.now) }
+    ensures { result ≡ place (fm_frame (label_of (sealed_outline label.now) item text.now) toggle service number) }
 {
     in_place(&frame(label, item, text, toggle, service, number))
 }
@@ -63,11 +63,11 @@ fn lay(
 impl Carrier for Fm {
     ghost State = { FmState };
 
-    ghost state = { fm-view };
+    ghost state = { fm_view };
 
     ghost meaning = { fm };
 
-    ghost lawful = { fm-lawful };
+    ghost lawful = { fm_lawful };
 
     fn fits(label: &Sealed) -> bool {
         label.len() <= 64 && label.tags().len() <= 2

@@ -1,5 +1,5 @@
 ghost use Rattle.std.specs.Prelude.{◌≡◌, ◌+◌, ◌*◌, ◌^◌, ◌<◌, ◌≤◌, length, if◌then◌else◌, slice_index};
-ghost use Rattle.fm.specs.Frames.{last-segment, closed, text-frame, announcing-frame, sent-tags, first_of, second-of, tag-bits, bits-frame, tags-frame};
+ghost use Rattle.fm.specs.Frames.{last_segment, closed, text_frame, announcing_frame, sent_tags, first_tag, second_tag, tag_bits, bits_frame, tags_frame};
 
 use label::tag::{ItemBits, Tag};
 
@@ -25,7 +25,7 @@ fn bit(b: bool) -> u64
 
 // The announcement of the tag group, 11A.
 pub(crate) fn announcing(service: u16) -> [u8; 8]
-    ensures { result ≡ announcing-frame service }
+    ensures { result ≡ announcing_frame service }
 {
     [
         (service / 256) as u8,
@@ -41,7 +41,7 @@ pub(crate) fn announcing(service: u16) -> [u8; 8]
 
 // The 37 bits of a tag group.
 fn pack(item: ItemBits, t: Tag, u: Tag) -> u64
-    ensures value { result ≡ tag-bits item t u }
+    ensures value { result ≡ tag_bits item t u }
     ensures bound { result < 2 ^ 40 }
 {
     let first = ((bit(item.toggle) * 2 + bit(item.running)) * 64 + t.class as u64) * 64
@@ -54,7 +54,7 @@ fn pack(item: ItemBits, t: Tag, u: Tag) -> u64
 pub(crate) fn text_segment(text: &[u8], toggle: bool, service: u16, s: usize) -> [u8; 8]
     requires few { s < 16 }
     requires inside { 4 * s + 4 ≤ length (closed text.now) }
-    ensures { result ≡ text-frame text.now toggle service s }
+    ensures { result ≡ text_frame text.now toggle service s }
 {
     let own = bit(toggle) * 16 + s as u64;
     [
@@ -72,7 +72,7 @@ pub(crate) fn text_segment(text: &[u8], toggle: bool, service: u16, s: usize) ->
 // The tag group with its 37 bits.
 pub(crate) fn tag_group(bits: u64, service: u16) -> [u8; 8]
     requires { bits < 2 ^ 40 }
-    ensures { result ≡ bits-frame service bits }
+    ensures { result ≡ bits_frame service bits }
 {
     [
         (service / 256) as u8,
@@ -88,15 +88,15 @@ pub(crate) fn tag_group(bits: u64, service: u16) -> [u8; 8]
 
 // The number of the last text segment.
 pub(crate) fn last(len: usize) -> usize
-    ensures { result ≡ last-segment len }
+    ensures { result ≡ last_segment len }
 {
     if len < 64 { len / 4 } else { 15 }
 }
 
 // The two tags as they are sent.
 fn pair(tags: &[Tag]) -> (Tag, Tag)
-    ensures first { result.0 ≡ first_of (sent-tags tags.now) }
-    ensures second { result.1 ≡ second-of (sent-tags tags.now) }
+    ensures first { result.0 ≡ first_tag (sent_tags tags.now) }
+    ensures second { result.1 ≡ second_tag (sent_tags tags.now) }
 {
     let dummy = Tag {
         class: 0,
@@ -112,7 +112,7 @@ fn pair(tags: &[Tag]) -> (Tag, Tag)
 
 // The tag group for these tags.
 pub(crate) fn tags_group(item: ItemBits, tags: &[Tag], service: u16) -> [u8; 8]
-    ensures { result ≡ tags-frame item tags.now service }
+    ensures { result ≡ tags_frame item tags.now service }
 {
     let (t, u) = pair(tags);
     tag_group(pack(item, t, u), service)

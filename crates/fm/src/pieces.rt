@@ -1,8 +1,8 @@
 ghost use Rattle.std.specs.Prelude.{◌≡◌, ℕ, ◌+◌, ◌*◌, ◌<◌, ◌≤◌, Bool, false, cond, List, length, take, drop, slice_index_or};
 ghost use Rattle.taking.specs.Bytes.{same_bytes};
-ghost use Rattle.taking.specs.Segments.{Numbered, Held, ends_at, ends-below, read-from, put-segment};
-ghost use Rattle.fm.specs.Text.{fm-segments, fm-pieces};
-ghost use Rattle.fm.specs.Held.{fm-held, fm-state, fm-piece, ReturnAt, Short64};
+ghost use Rattle.taking.specs.Segments.{Numbered, Held, ends_at, ends_below, read_from, put_segment};
+ghost use Rattle.fm.specs.Text.{fm_segments, fm_pieces};
+ghost use Rattle.fm.specs.Held.{fm_held, fm_state, fm_piece, ReturnAt, Short64};
 ghost use Rattle.taking.specs.Views.{read_out, Short};
 ghost use Rattle.std.proofs.Common.{rules};
 
@@ -52,7 +52,7 @@ fn is_segment(bytes: &[u8; 64], i: usize, four: &[u8; 4]) -> bool
 // The text ends in segment i, which is held.
 fn ends_in(bytes: &[u8; 64], held: &[bool; 16], i: usize) -> bool
     requires { i < 16 }
-    ensures { result ≡ ends_at fm-segments (fm-held held.now bytes.now i) }
+    ensures { result ≡ ends_at fm_segments (fm_held held.now bytes.now i) }
 {
     if !held[i] {
         return false;
@@ -66,7 +66,7 @@ fn ends_in(bytes: &[u8; 64], held: &[bool; 16], i: usize) -> bool
 // The text ends in a held segment below n.
 fn ends_before(bytes: &[u8; 64], held: &[bool; 16], n: usize) -> bool
     requires { n ≤ 16 }
-    ensures { result ≡ ends-below fm-segments (fm-held held.now bytes.now) n }
+    ensures { result ≡ ends_below fm_segments (fm_held held.now bytes.now) n }
 {
     for i in 0..n {
         if ends_in(bytes, held, i) {
@@ -78,7 +78,7 @@ fn ends_before(bytes: &[u8; 64], held: &[bool; 16], n: usize) -> bool
 
 // The length of the text, where it is complete.
 fn text_length(bytes: &[u8; 64], held: &[bool; 16]) -> Option<usize>
-    ensures text { read-from fm-segments (fm-held held.now bytes.now) 16 0 ≡ read_out result bytes.now }
+    ensures text { read_from fm_segments (fm_held held.now bytes.now) 16 0 ≡ read_out result bytes.now }
     ensures short { Short64 result }
 {
     for i in 0..16 {
@@ -93,7 +93,7 @@ fn text_length(bytes: &[u8; 64], held: &[bool; 16]) -> Option<usize>
 }
 
 fn put_in(bytes: &mut [u8; 64], held: &mut [bool; 16], piece: &FmPiece)
-    ensures { fm-held held.new bytes.new ≡ put-segment (fm-held held.old bytes.old) (fm-piece piece.now) }
+    ensures { fm_held held.new bytes.new ≡ put_segment (fm_held held.old bytes.old) (fm_piece piece.now) }
 {
     let n = piece.number;
     bytes[4 * n..4 * n + 4].copy_from_slice(&piece.bytes);
@@ -113,11 +113,11 @@ impl Pieces for FmText {
 
     ghost Meant = { Numbered (List ℕ) };
 
-    ghost held = { fm-state };
+    ghost held = { fm_state };
 
-    ghost meant = { fm-piece };
+    ghost meant = { fm_piece };
 
-    ghost pieces = { fm-pieces };
+    ghost pieces = { fm_pieces };
 
     ghost empty = { Prim.search rules };
 

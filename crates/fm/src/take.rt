@@ -1,11 +1,11 @@
 ghost use Rattle.std.specs.Prelude.{◌≡◌, ◌&&◌, length, None, ◌==◌};
 ghost use Rattle.carrier.specs.Meaning.{answered, reply, next};
-ghost use Rattle.taking.specs.Taking.{on-text, on-tags};
-ghost use Rattle.taking.specs.Views.{tags-of};
-ghost use Rattle.fm.specs.Held.{fm-piece};
-ghost use Rattle.fm.specs.Taking.{announces, learns, lifted, has-learnt, own_bits, read-bits, text-piece, text-toggle, unpacked, usable, version_of};
-ghost use Rattle.fm.specs.Text.{fm-pieces};
-ghost use Rattle.fm.specs.Views.{fm-view};
+ghost use Rattle.taking.specs.Taking.{on_text, on_tags};
+ghost use Rattle.taking.specs.Views.{tags_of};
+ghost use Rattle.fm.specs.Held.{fm_piece};
+ghost use Rattle.fm.specs.Taking.{announces, learns, lifted, has_learnt, own_bits, read_bits, text_piece, text_toggle, unpacked, usable, version_of};
+ghost use Rattle.fm.specs.Text.{fm_pieces};
+ghost use Rattle.fm.specs.Views.{fm_view};
 
 use crate::fm::Fm;
 use crate::text::FmPiece;
@@ -55,7 +55,7 @@ fn is_usable(group: u8) -> bool
 // A text segment.
 fn piece(frame: &[u8]) -> FmPiece
     requires { length frame.now ≡ 8 }
-    ensures { fm-piece result ≡ text-piece frame.now }
+    ensures { fm_piece result ≡ text_piece frame.now }
 {
     FmPiece {
         number: (own(frame) % 16) as usize,
@@ -66,7 +66,7 @@ fn piece(frame: &[u8]) -> FmPiece
 // The 37 bits of a tag group.
 fn bits(frame: &[u8]) -> u64
     requires { length frame.now ≡ 8 }
-    ensures { result ≡ read-bits frame.now }
+    ensures { result ≡ read_bits frame.now }
 {
     let high = (own(frame) as u64 * 256 + frame[4] as u64) * 256 + frame[5] as u64;
     (high * 256 + frame[6] as u64) * 256 + frame[7] as u64
@@ -74,7 +74,7 @@ fn bits(frame: &[u8]) -> u64
 
 // The tags that a tag group carries.
 fn unpack(n: u64) -> Arrived
-    ensures { tags-of result ≡ unpacked n }
+    ensures { tags_of result ≡ unpacked n }
 {
     let second = Tag {
         class: (n / 32 / 64 % 64) as u8,
@@ -97,7 +97,7 @@ fn unpack(n: u64) -> Arrived
 
 impl Fm {
     pub(crate) fn has_learnt(&self, group: u8) -> bool
-        ensures { result ≡ has-learnt (fm-view self.now).group group }
+        ensures { result ≡ has_learnt (fm_view self.now).group group }
     {
         match self.group {
             None => false,
@@ -108,8 +108,8 @@ impl Fm {
     // Learns or forgets the tag group.
     pub(crate) fn learn(&mut self, frame: &[u8]) -> Result<Answer, Refusal>
         requires { length frame.now ≡ 8 }
-        ensures reply { result ≡ reply (learns (fm-view self.old) frame.now) }
-        ensures next { fm-view self.new ≡ next (fm-view self.old) (learns (fm-view self.old) frame.now) }
+        ensures reply { result ≡ reply (learns (fm_view self.old) frame.now) }
+        ensures next { fm_view self.new ≡ next (fm_view self.old) (learns (fm_view self.old) frame.now) }
     {
         if frame[4] / 32 % 2 == 1 {
             self.group = None;
@@ -126,7 +126,7 @@ impl Fm {
     // Takes a text segment.
     pub(crate) fn take_text(&mut self, frame: &[u8]) -> Answer
         requires { length frame.now ≡ 8 }
-        ensures { lifted (fm-view self.old) (on-text fm-pieces (fm-view self.old).core (text-toggle frame.now) (text-piece frame.now)) ≡ answered result (fm-view self.new) }
+        ensures { lifted (fm_view self.old) (on_text fm_pieces (fm_view self.old).core (text_toggle frame.now) (text_piece frame.now)) ≡ answered result (fm_view self.new) }
     {
         let toggle = own(frame) / 16 == 1;
         self.taking.on_text(toggle, &piece(frame))
@@ -135,8 +135,8 @@ impl Fm {
     // Takes the learnt tag group.
     pub(crate) fn take_tags(&mut self, frame: &[u8]) -> Result<Answer, Refusal>
         requires { length frame.now ≡ 8 }
-        ensures reply { result ≡ reply (lifted (fm-view self.old) (on-tags fm-pieces (fm-view self.old).core None (unpacked (read-bits frame.now)))) }
-        ensures next { fm-view self.new ≡ next (fm-view self.old) (lifted (fm-view self.old) (on-tags fm-pieces (fm-view self.old).core None (unpacked (read-bits frame.now)))) }
+        ensures reply { result ≡ reply (lifted (fm_view self.old) (on_tags fm_pieces (fm_view self.old).core None (unpacked (read_bits frame.now)))) }
+        ensures next { fm_view self.new ≡ next (fm_view self.old) (lifted (fm_view self.old) (on_tags fm_pieces (fm_view self.old).core None (unpacked (read_bits frame.now)))) }
     {
         self.taking.on_tags(None, &unpack(bits(frame)))
     }

@@ -3,7 +3,7 @@ use Rattle.std.proofs.Common.{◌≡◌, ℕ, ◌+◌, ◌-◌, ◌*◌, ◌/◌
 use Rattle.std.proofs.lemmas.Bool.{and_parts, and_from, leb-true, eqb-true, le-leb, cond-true}
 use Rattle.front.specs.declared.record.Record.{Record}
 use Rattle.front.specs.declared.record.Record.TheVariants.{Reading, Dashes}
-use Rattle.front.specs.Reading.{digit, value, figures, reading-of}
+use Rattle.front.specs.Reading.{digit, value, figures, reading_of}
 use Rattle.front.specs.Written.{short, long, Writes, ReadsAsWritten}
 
 is_digit : (d : ℕ) → d < 10 → digit (0x30 + d) ≡ true
@@ -19,21 +19,21 @@ read_back a b c n ha hb hc e =
 
 -- digits, a point and a digit
 record Figures (tens units point tenth n : ℕ) : Type 0 where
-  pub tens-low : 0x30 ≤ tens
-  pub tens-high : tens ≤ 0x39
-  pub units-low : 0x30 ≤ units
-  pub units-high : units ≤ 0x39
-  pub is-point : point ≡ 0x2E
-  pub tenth-low : 0x30 ≤ tenth
-  pub tenth-high : tenth ≤ 0x39
+  pub tens_low : 0x30 ≤ tens
+  pub tens_high : tens ≤ 0x39
+  pub units_low : 0x30 ≤ units
+  pub units_high : units ≤ 0x39
+  pub is_point : point ≡ 0x2E
+  pub tenth_low : 0x30 ≤ tenth
+  pub tenth_high : tenth ≤ 0x39
   pub number : value tens * 100 + value units * 10 + value tenth ≡ n
 
 shown : (b : Bool) (m n : ℕ) → cond b (Reading m) Dashes ≡ Reading n → (b ≡ true) × (m ≡ n)
 shown true m n e = (refl, cc)
 shown false m n e = absurd (let z : ◌≡◌ {A = ℕ} 0 1 = cc in omega arith)
 
-as-figures : (a b p c n : ℕ) → figures a b p c ≡ Reading n → Figures a b p c n
-as-figures a b p c n e =
+as_figures : (a b p c n : ℕ) → figures a b p c ≡ Reading n → Figures a b p c n
+as_figures a b p c n e =
     let s = shown (digit a && (digit b && (eqb p 0x2E && digit c))) (value a * 100 + value b * 10 + value c) n e in
     let t = and_parts (digit a) (digit b && (eqb p 0x2E && digit c)) s.0 in
     let u = and_parts (digit b) (eqb p 0x2E && digit c) t.1 in
@@ -42,38 +42,38 @@ as-figures a b p c n e =
     let db = and_parts (leb 0x30 b) (leb b 0x39) u.0 in
     let dc = and_parts (leb 0x30 c) (leb c 0x39) v.1 in
     record {
-      tens-low = leb-true _ _ da.0;
-      tens-high = leb-true _ _ da.1;
-      units-low = leb-true _ _ db.0;
-      units-high = leb-true _ _ db.1;
-      is-point = eqb-true _ _ v.0;
-      tenth-low = leb-true _ _ dc.0;
-      tenth-high = leb-true _ _ dc.1;
+      tens_low = leb-true _ _ da.0;
+      tens_high = leb-true _ _ da.1;
+      units_low = leb-true _ _ db.0;
+      units_high = leb-true _ _ db.1;
+      is_point = eqb-true _ _ v.0;
+      tenth_low = leb-true _ _ dc.0;
+      tenth_high = leb-true _ _ dc.1;
       number = s.1;
     }
 
 never : (n : ℕ) → Dashes ≡ Reading n → ⊥
 never n e = let z : ◌≡◌ {A = ℕ} 0 1 = cc in omega arith
 
-pub writes : (n : ℕ) (text : List ℕ) → reading-of text ≡ Reading n → Writes n text
+pub writes : (n : ℕ) (text : List ℕ) → reading_of text ≡ Reading n → Writes n text
 writes n [] e = absurd (never n e)
 writes n (a ∷ []) e = absurd (never n e)
 writes n (a ∷ b ∷ []) e = absurd (never n e)
 writes n (b ∷ p ∷ c ∷ []) e =
-    let f = as-figures 0x30 b p c n e in
+    let f = as_figures 0x30 b p c n e in
     let units : b ≡ 0x30 + n / 10 = omega arith in
-    let point : p ≡ 0x2E = f.is-point in
+    let point : p ≡ 0x2E = f.is_point in
     let tenth : c ≡ 0x30 + n % 10 = omega arith in
     inl (omega arith, cc)
 writes n (a ∷ b ∷ p ∷ c ∷ []) e =
-    let f = as-figures a b p c n e in
+    let f = as_figures a b p c n e in
     let tens : a ≡ 0x30 + n / 100 = omega arith in
     let units : b ≡ 0x30 + n / 10 % 10 = omega arith in
-    let point : p ≡ 0x2E = f.is-point in
+    let point : p ≡ 0x2E = f.is_point in
     let tenth : c ≡ 0x30 + n % 10 = omega arith in
     inr (omega arith, cc)
 writes n (a ∷ b ∷ c ∷ d ∷ x ∷ more) e = absurd (never n e)
 
-pub reads : (n : ℕ) (text : List ℕ) → Writes n text → reading-of text ≡ Reading n
-reads n text (inl (h, e)) = ap reading-of e ∙ read_back 0 (n / 10) (n % 10) n (omega arith) (omega arith) (omega arith) (omega arith)
-reads n text (inr (h, e)) = ap reading-of e ∙ read_back (n / 100) (n / 10 % 10) (n % 10) n (omega arith) (omega arith) (omega arith) (omega arith)
+pub reads : (n : ℕ) (text : List ℕ) → Writes n text → reading_of text ≡ Reading n
+reads n text (inl (h, e)) = ap reading_of e ∙ read_back 0 (n / 10) (n % 10) n (omega arith) (omega arith) (omega arith) (omega arith)
+reads n text (inr (h, e)) = ap reading_of e ∙ read_back (n / 100) (n / 10 % 10) (n % 10) n (omega arith) (omega arith) (omega arith) (omega arith)

@@ -16,10 +16,10 @@ figures tens units point tenth =
     (Reading (value tens * 100 + value units * 10 + value tenth)) Dashes
 
 -- one digit before the point stands for 0 and that digit; all else is dashes
-abbrev pub reading-of : List ℕ → Record
-reading-of [] = Dashes
-reading-of (a ∷ []) = Dashes
-reading-of (a ∷ b ∷ []) = Dashes
-reading-of (units ∷ point ∷ tenth ∷ []) = figures 0x30 units point tenth
-reading-of (tens ∷ units ∷ point ∷ tenth ∷ []) = figures tens units point tenth
-reading-of (a ∷ b ∷ c ∷ d ∷ e ∷ more) = Dashes
+abbrev pub reading_of : List ℕ → Record
+reading_of [] = Dashes
+reading_of (a ∷ []) = Dashes
+reading_of (a ∷ b ∷ []) = Dashes
+reading_of (units ∷ point ∷ tenth ∷ []) = figures 0x30 units point tenth
+reading_of (tens ∷ units ∷ point ∷ tenth ∷ []) = figures tens units point tenth
+reading_of (a ∷ b ∷ c ∷ d ∷ e ∷ more) = Dashes

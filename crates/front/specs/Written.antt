@@ -1,7 +1,7 @@
 -- How a depth is written for the front.
 use Rattle.std.specs.Prelude.{◌≡◌, ℕ, ◌+◌, ◌/◌, ◌%◌, ◌<◌, ◌⊎◌, List, [], ◌∷◌}
 use Rattle.front.specs.declared.record.Record.TheVariants.{Reading}
-use Rattle.front.specs.Reading.{reading-of}
+use Rattle.front.specs.Reading.{reading_of}
 
 -- n tenths of a metre, with one digit before the point and with two
 abbrev pub short : ℕ → List ℕ
@@ -16,4 +16,4 @@ Writes n text = ((n < 100) × (text ≡ short n)) ⊎ ((n < 1000) × (text ≡ l
 -- the front reads n in just the texts that write n
 abbrev pub ReadsAsWritten : Type 0
 ReadsAsWritten =
-    (n : ℕ) (text : List ℕ) → (Writes n text → reading-of text ≡ Reading n) × (reading-of text ≡ Reading n → Writes n text)
+    (n : ℕ) (text : List ℕ) → (Writes n text → reading_of text ≡ Reading n) × (reading_of text ≡ Reading n → Writes n text)

@@ -1,6 +1,6 @@
 ghost use Rattle.std.specs.Prelude.{◌≡◌};
 ghost use Rattle.front.specs.declared.record.Record.TheVariants.{Dashes};
-ghost use Rattle.front.specs.Reading.{reading-of};
+ghost use Rattle.front.specs.Reading.{reading_of};
 
 use crate::record::Record;
 
@@ -30,7 +30,7 @@ impl Front {
 
     // Shows what it reads in a text.
     pub fn show(&mut self, text: &[u8])
-        ensures { self.new.«record» ≡ reading-of text.now }
+        ensures { self.new.«record» ≡ reading_of text.now }
     {
         self.record = Record::of(text);
     }

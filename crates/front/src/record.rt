@@ -1,5 +1,5 @@
 ghost use Rattle.std.specs.Prelude.{◌≡◌};
-ghost use Rattle.front.specs.Reading.{digit, figures, reading-of};
+ghost use Rattle.front.specs.Reading.{digit, figures, reading_of};
 
 // What the front shows.
 #[derive(Clone, Copy, PartialEq, Eq, Debug)]
@@ -29,7 +29,7 @@ fn figures(tens: u8, units: u8, tenth: u8) -> Record
 impl Record {
     // What the front reads in a text.
     pub fn of(text: &[u8]) -> Record
-        ensures { result ≡ reading-of text.now }
+        ensures { result ≡ reading_of text.now }
     {
         match text {
             [units, b'.', tenth] => figures(b'0', *units, *tenth),

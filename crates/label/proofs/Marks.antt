@@ -4,9 +4,9 @@ use Rattle.std.proofs.lemmas.Bool.{and_parts, and_from, or_cases, or_left, or_ri
 use Rattle.label.specs.declared.tag.Tag.{Tag}
 use Rattle.label.specs.Classes.{silent}
 use Rattle.label.specs.Lists.{any, all}
-use Rattle.label.specs.Label.{Label, Same, part-for, marked}
-use Rattle.label.specs.Lawful.{apart, all_apart, accompanied, lawful-sounding, lawful, sealable}
-use Rattle.label.specs.Tags.{part, lies_in, shares, of-class, sounds, sounding, same_tag, has}
+use Rattle.label.specs.Label.{Label, Same, part_for, marked}
+use Rattle.label.specs.Lawful.{apart, all_apart, accompanied, lawful_sounding, lawful, sealable}
+use Rattle.label.specs.Tags.{part, lies_in, shares, of_class, sounds, sounding, same_tag, has}
 
 tag_is : (t u : Tag) → same_tag t u ≡ true → t ≡ u
 tag_is t u e =
@@ -32,9 +32,9 @@ find c (t ∷ ts) =
     ⊎_elim (λ e. inl (t, or_left (same_tag t t) (has t ts) (tag_same t), eqb-true t.class c e))
     (λ e. ⊎_elim (λ x. inl (x.0, or_right (same_tag x.0 t) (has x.0 ts) x.1, x.2)) (λ x. inr (e, x)) (find c ts)) (cases_Bool (eqb t.class c))
 
-pub none-marked : (x : List ℕ) (c : ℕ) (ts : List Tag) → Without c ts → part-for x ts c ≡ None
-none-marked x c [] w = refl
-none-marked x c (t ∷ ts) w = cond-false (eqb t.class c) (Some (part x t)) (part-for x ts c) w.0 ∙ none-marked x c ts w.1
+pub none_marked : (x : List ℕ) (c : ℕ) (ts : List Tag) → Without c ts → part_for x ts c ≡ None
+none_marked x c [] w = refl
+none_marked x c (t ∷ ts) w = cond-false (eqb t.class c) (Some (part x t)) (part_for x ts c) w.0 ∙ none_marked x c ts w.1
 
 not_in : (c : ℕ) (t : Tag) (ts : List Tag) → Without c ts → has t ts ≡ true → t.class ≡ c → ⊥
 not_in c t [] w h e = let z : ◌≡◌ {A = ℕ} 0 1 = cc in omega arith
@@ -46,7 +46,7 @@ pub others : (t : Tag) (us : List Tag) → all (apart t) us ≡ true → Without
 others t [] e = tt
 others t (u ∷ us) e =
     let p = and_parts (apart t u) (all (apart t) us) e in
-    let q = and_parts (not (of-class t.class u)) (not (shares t u)) p.0 in
+    let q = and_parts (not (of_class t.class u)) (not (shares t u)) p.0 in
     let n = not-true (eqb t.class u.class) q.0 in
     (ne_eqb u.class t.class (λ z. both_ways (eqb t.class u.class) n (eq-eqb t.class u.class (sym z))), others t us p.1)
 
@@ -63,30 +63,30 @@ unique (v ∷ vs) a t u h k e =
     (or_cases (same_tag t v) (has t vs) h)
 
 -- the first tag of the class is the only one
-one-marked : (x : List ℕ) (c : ℕ) (t : Tag) (ts : List Tag) → ((u : Tag) → has u ts ≡ true → u.class ≡ c → u ≡ t) → t.class ≡ c → has t ts ≡ true → part-for x ts c ≡ Some (part x t)
-one-marked x c t [] only e h = let z : ◌≡◌ {A = ℕ} 0 1 = cc in absurd (omega arith)
-one-marked x c t (u ∷ us) only e h =
+one_marked : (x : List ℕ) (c : ℕ) (t : Tag) (ts : List Tag) → ((u : Tag) → has u ts ≡ true → u.class ≡ c → u ≡ t) → t.class ≡ c → has t ts ≡ true → part_for x ts c ≡ Some (part x t)
+one_marked x c t [] only e h = let z : ◌≡◌ {A = ℕ} 0 1 = cc in absurd (omega arith)
+one_marked x c t (u ∷ us) only e h =
     ⊎_elim
-    (λ y. cond-true (eqb u.class c) (Some (part x u)) (part-for x us c) y ∙ ap (λ v. Some (part x v)) (only u (or_left (same_tag u u) (has u us) (tag_same u)) (eqb-true u.class c y)))
-    (λ y. cond-false (eqb u.class c) (Some (part x u)) (part-for x us c) y
-    ∙ one-marked x c t us (λ v k. only v (or_right (same_tag v u) (has v us) k)) e
+    (λ y. cond-true (eqb u.class c) (Some (part x u)) (part_for x us c) y ∙ ap (λ v. Some (part x v)) (only u (or_left (same_tag u u) (has u us) (tag_same u)) (eqb-true u.class c y)))
+    (λ y. cond-false (eqb u.class c) (Some (part x u)) (part_for x us c) y
+    ∙ one_marked x c t us (λ v k. only v (or_right (same_tag v u) (has v us) k)) e
     (⊎_elim (λ k. absurd (both_ways (eqb u.class c) y (eq-eqb u.class c (ap (λ v. v.class) (sym (tag_is t u k)) ∙ e)))) (λ k. k) (or_cases (same_tag t u) (has t us) h)))
     (cases_Bool (eqb u.class c))
 
 module _ (x : List ℕ) (c : ℕ) (ts us : List Tag) (au : all_apart us ≡ true) (same : (t : Tag) → has t ts ≡ has t us) where
-  parts_same : part-for x ts c ≡ part-for x us c
+  parts_same : part_for x ts c ≡ part_for x us c
   parts_same =
       ⊎_elim
       (λ f. let own : (u : Tag) → has u us ≡ true → u.class ≡ c → u ≡ f.0 = λ u h e. unique us au u f.0 h f.1 (e ∙ sym f.2) in
-      one-marked x c f.0 ts (λ u h e. own u (sym (same u) ∙ h) e) f.2 (same f.0 ∙ f.1)
-      ∙ sym (one-marked x c f.0 us own f.2 f.1))
+      one_marked x c f.0 ts (λ u h e. own u (sym (same u) ∙ h) e) f.2 (same f.0 ∙ f.1)
+      ∙ sym (one_marked x c f.0 us own f.2 f.1))
       (λ w. ⊎_elim
       (λ f. absurd (not_in c f.0 us w (sym (same f.0) ∙ f.1) f.2))
-      (λ v. none-marked x c ts v ∙ sym (none-marked x c us w)) (find c ts))
+      (λ v. none_marked x c ts v ∙ sym (none_marked x c us w)) (find c ts))
       (find c us)
 
-pub sealable-apart : (n : ℕ) (ts : List Tag) → sealable n ts ≡ true → all_apart (sounding ts) ≡ true
-sealable-apart n ts e =
+pub sealable_apart : (n : ℕ) (ts : List Tag) → sealable n ts ≡ true → all_apart (sounding ts) ≡ true
+sealable_apart n ts e =
     let w = (and_parts (leb (length ts) 4 && all sounds ts) (lawful n ts) e).1 in
     let l = (and_parts (all (lies_in n) (sounding ts) && all_apart (sounding ts)) (accompanied (sounding ts)) w).0 in
     (and_parts (all (lies_in n) (sounding ts)) (all_apart (sounding ts)) l).1
@@ -98,25 +98,25 @@ part_step true false p r q g e = e
 part_step false true p r q g e = refl
 part_step false false p r q g e = e
 
-loud-class : (t : Tag) (c : ℕ) → silent c ≡ false → silent t.class ≡ true → eqb t.class c ≡ false
-loud-class t c h s = ne_eqb t.class c (λ e. both_ways (silent c) h (ap silent (sym e) ∙ s))
+loud_class : (t : Tag) (c : ℕ) → silent c ≡ false → silent t.class ≡ true → eqb t.class c ≡ false
+loud_class t c h s = ne_eqb t.class c (λ e. both_ways (silent c) h (ap silent (sym e) ∙ s))
 
-sounding-part : (x : List ℕ) (c : ℕ) → silent c ≡ false → (ts : List Tag) → part-for x ts c ≡ part-for x (sounding ts) c
-sounding-part x c h [] = refl
-sounding-part x c h (t ∷ ts) =
-    part_step (silent t.class) (eqb t.class c) (Some (part x t)) (part-for x ts c) (part-for x (sounding ts) c) (loud-class t c h) (sounding-part x c h ts)
-    ∙ elim (silent t.class) as (λ b. cond b (part-for x (sounding ts) c) (cond (eqb t.class c) (Some (part x t)) (part-for x (sounding ts) c)) ≡ part-for x (cond b (sounding ts) (t ∷ sounding ts)) c)
+sounding_part : (x : List ℕ) (c : ℕ) → silent c ≡ false → (ts : List Tag) → part_for x ts c ≡ part_for x (sounding ts) c
+sounding_part x c h [] = refl
+sounding_part x c h (t ∷ ts) =
+    part_step (silent t.class) (eqb t.class c) (Some (part x t)) (part_for x ts c) (part_for x (sounding ts) c) (loud_class t c h) (sounding_part x c h ts)
+    ∙ elim (silent t.class) as (λ b. cond b (part_for x (sounding ts) c) (cond (eqb t.class c) (Some (part x t)) (part_for x (sounding ts) c)) ≡ part_for x (cond b (sounding ts) (t ∷ sounding ts)) c)
     [ true ↦ refl | false ↦ refl ]
 
 -- what is the same as a sealed label marks the same for each class
-pub same-marks : (x l : Label) → sealable (length l.text) l.tags ≡ true → Same x l → (c : ℕ) → marked x c ≡ marked l c
+pub same_marks : (x l : Label) → sealable (length l.text) l.tags ≡ true → Same x l → (c : ℕ) → marked x c ≡ marked l c
 unfolding marked
-same-marks x l q s c = go (silent c) refl
+same_marks x l q s c = go (silent c) refl
   where
-    go : (b : Bool) → silent c ≡ b → cond b None (part-for x.text x.tags c) ≡ cond b None (part-for l.text l.tags c)
+    go : (b : Bool) → silent c ≡ b → cond b None (part_for x.text x.tags c) ≡ cond b None (part_for l.text l.tags c)
     go true e = refl
     go false e =
-        sounding-part x.text c e x.tags
-        ∙ ap (λ y. part-for y (sounding x.tags) c) s.text
-        ∙ parts_same l.text c (sounding x.tags) (sounding l.tags) (sealable-apart (length l.text) l.tags q) s.tags
-        ∙ sym (sounding-part l.text c e l.tags)
+        sounding_part x.text c e x.tags
+        ∙ ap (λ y. part_for y (sounding x.tags) c) s.text
+        ∙ parts_same l.text c (sounding x.tags) (sounding l.tags) (sealable_apart (length l.text) l.tags q) s.tags
+        ∙ sym (sounding_part l.text c e l.tags)

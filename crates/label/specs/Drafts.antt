@@ -8,21 +8,21 @@ use Rattle.label.specs.declared.tag.Tag.{Tag}
 use Rattle.label.specs.Classes.{silent}
 use Rattle.label.specs.Lists.{any, all}
 use Rattle.label.specs.Label.{Outline}
-use Rattle.label.specs.Tags.{lies_in, shares, of-class, is-descriptor, is-other}
+use Rattle.label.specs.Tags.{lies_in, shares, of_class, is_descriptor, is_other}
 
-abbrev pub draft-outline : Draft → Outline
-draft-outline d = record { len = d.len; tags = take d.count d.tags }
+abbrev pub draft_outline : Draft → Outline
+draft_outline d = record { len = d.len; tags = take d.count d.tags }
 
-abbrev pub sealed-outline : Sealed → Outline
-sealed-outline s = record { len = s.len; tags = take s.count s.tags }
+abbrev pub sealed_outline : Sealed → Outline
+sealed_outline s = record { len = s.len; tags = take s.count s.tags }
 
 -- a byte that no text has
 abbrev pub control : ℕ → Bool
 control b = nat_lt b 0x20
 
 -- why no draft is opened over a text
-abbrev pub opening-refusal : List ℕ → Option Refusal
-opening-refusal text =
+abbrev pub opening_refusal : List ℕ → Option Refusal
+opening_refusal text =
     cond (length text == 0) (Some NoText)
     (cond (nat_lt 128 (length text)) (Some TextTooLong)
     (cond (any control text) (Some ControlByte) None))
@@ -33,17 +33,17 @@ untagged n = record { len = n; tags = [] }
 
 -- what opening a draft gives
 abbrev pub Opens : List ℕ → Result Draft Refusal → Type 0
-Opens text (Ok d) = (opening-refusal text ≡ None) × (draft-outline d ≡ untagged (length text))
-Opens text (Err e) = opening-refusal text ≡ Some e
+Opens text (Ok d) = (opening_refusal text ≡ None) × (draft_outline d ≡ untagged (length text))
+Opens text (Err e) = opening_refusal text ≡ Some e
 
 -- why a tag does not come into a draft
-abbrev pub tagging-refusal : Outline → Tag → Option Refusal
-tagging-refusal o t =
+abbrev pub tagging_refusal : Outline → Tag → Option Refusal
+tagging_refusal o t =
     cond (silent t.class) (Some SilentClass)
     (cond (not (lies_in o.len t)) (Some PartLeavesText)
     (cond (any (shares t) o.tags) (Some SharedPosition)
-    (cond (any (of-class t.class) o.tags) (Some ClassAlreadyIn)
-    (cond (is-descriptor t && not (any is-other o.tags)) (Some LoneDescriptor)
+    (cond (any (of_class t.class) o.tags) (Some ClassAlreadyIn)
+    (cond (is_descriptor t && not (any is_other o.tags)) (Some LoneDescriptor)
     (cond (nat_le 4 (length o.tags)) (Some FourTagsIn) None)))))
 
 -- the tag added behind the others

@@ -2,7 +2,7 @@
 use Rattle.std.specs.Prelude.{◌≡◌, ℕ, ◌≤◌, Bool, true, false, cond, not, List, [], ◌∷◌, length, Some, None, Option, ◌==◌}
 use Rattle.label.specs.declared.tag.Tag.{Tag}
 use Rattle.label.specs.declared.tag.ItemBits.{ItemBits}
-use Rattle.label.specs.Classes.{silent, item-classes}
+use Rattle.label.specs.Classes.{silent, item_classes}
 use Rattle.label.specs.Lists.{any}
 use Rattle.label.specs.Tags.{part, deletion, has, sounding}
 
@@ -21,25 +21,25 @@ abbrev pub label_of : Outline → ItemBits → List ℕ → Label
 label_of o item text = record { text = text; tags = o.tags; item = item }
 
 -- the part that a list of tags marks for a class
-abbrev pub part-for : List ℕ → List Tag → ℕ → Option (List ℕ)
-part-for text [] c = None
-part-for text (t ∷ ts) c = cond (t.class == c) (Some (part text t)) (part-for text ts c)
+abbrev pub part_for : List ℕ → List Tag → ℕ → Option (List ℕ)
+part_for text [] c = None
+part_for text (t ∷ ts) c = cond (t.class == c) (Some (part text t)) (part_for text ts c)
 
 -- the part that a label marks for a class; None where it does not name the class
 unfoldable pub marked : Label → ℕ → Option (List ℕ)
-marked l c = cond (silent c) None (part-for l.text l.tags c)
+marked l c = cond (silent c) None (part_for l.text l.tags c)
 
-abbrev pub is-deletion : Option (List ℕ) → Bool
-is-deletion None = false
-is-deletion (Some p) = deletion p
+abbrev pub is_deletion : Option (List ℕ) → Bool
+is_deletion None = false
+is_deletion (Some p) = deletion p
 
 -- the label deletes in one of the classes
-unfoldable pub deletes-in : Label → List ℕ → Bool
-deletes-in l cs = any (λ c. is-deletion (marked l c)) cs
+unfoldable pub deletes_in : Label → List ℕ → Bool
+deletes_in l cs = any (λ c. is_deletion (marked l c)) cs
 
 -- an Item deletion is on the label
-abbrev pub item-deletion : Label → Bool
-item-deletion l = deletes-in l item-classes
+abbrev pub item_deletion : Label → Bool
+item_deletion l = deletes_in l item_classes
 
 -- labels compared, silent tags and order aside
 pub record Same (x l : Label) : Type 0 where

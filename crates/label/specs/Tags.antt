@@ -34,15 +34,15 @@ sounding (t ∷ ts) = cond (silent t.class) (sounding ts) (t ∷ sounding ts)
 abbrev pub shares : Tag → Tag → Bool
 shares t u = nat_lt u.start (behind t) && nat_lt t.start (behind u)
 
-abbrev pub of-class : ℕ → Tag → Bool
-of-class c t = c == t.class
+abbrev pub of_class : ℕ → Tag → Bool
+of_class c t = c == t.class
 
-abbrev pub is-descriptor : Tag → Bool
-is-descriptor t = descriptor t.class
+abbrev pub is_descriptor : Tag → Bool
+is_descriptor t = descriptor t.class
 
 -- neither silent nor a Descriptor
-abbrev pub is-other : Tag → Bool
-is-other t = sounds t && not (descriptor t.class)
+abbrev pub is_other : Tag → Bool
+is_other t = sounds t && not (descriptor t.class)
 
 -- lists of tags compared
 abbrev pub same_tag : Tag → Tag → Bool

@@ -1,5 +1,5 @@
 ghost use Rattle.std.specs.Prelude.{◌≡◌};
-ghost use Rattle.label.specs.Classes.{category-of, silent};
+ghost use Rattle.label.specs.Classes.{category_of, silent};
 
 // The category of a content class.
 #[derive(Clone, Copy)]
@@ -16,7 +16,7 @@ pub enum Category {
 impl Category {
     // The category of a class number; the numbers 54, 55 and those above 63 have none.
     pub fn of(class: u8) -> Option<Category>
-        ensures { result ≡ category-of class }
+        ensures { result ≡ category_of class }
     {
         match class {
             0 => Some(Category::Dummy),

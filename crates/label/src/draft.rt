@@ -1,7 +1,7 @@
 ghost use Rattle.std.specs.Prelude.{◌≡◌, ◌≤◌, not, None};
 ghost use Rattle.label.specs.Lists.{any};
 ghost use Rattle.label.specs.Refusals.{Own, OwnReason, opening, tagging};
-ghost use Rattle.label.specs.Drafts.{draft-outline, sealed-outline, control, opening-refusal, Opens, tagging-refusal, tagged, done, left, matches};
+ghost use Rattle.label.specs.Drafts.{draft_outline, sealed_outline, control, opening_refusal, Opens, tagging_refusal, tagged, done, left, matches};
 
 use crate::category::is_silent;
 use crate::question::{IsDescriptor, IsOther, OfClass, Question, SharesWith, any_tag};
@@ -22,7 +22,7 @@ fn has_control(text: &[u8]) -> bool
 
 // Why no draft is opened over a text, or nothing.
 fn why_not_open(text: &[u8]) -> Option<Refusal>
-    ensures value { result ≡ opening-refusal text.now }
+    ensures value { result ≡ opening_refusal text.now }
     ensures own { OwnReason opening result }
 {
     if text.len() == 0 {
@@ -39,7 +39,7 @@ fn why_not_open(text: &[u8]) -> Option<Refusal>
 
 // Why a tag does not come into a draft, or nothing.
 fn why_not_tag(len: usize, tags: &[Tag], tag: Tag) -> Option<Refusal>
-    ensures value { result ≡ tagging-refusal (record { len = len; tags = tags.now }) tag }
+    ensures value { result ≡ tagging_refusal (record { len = len; tags = tags.now }) tag }
     ensures own { OwnReason tagging result }
 {
     if is_silent(tag.class) {
@@ -86,9 +86,9 @@ impl Draft {
 
     // Adds a tag behind the others.
     pub fn tag(&mut self, tag: Tag) -> Result<(), Refusal>
-        ensures reply { result ≡ done (tagging-refusal (draft-outline self.old) tag) tt }
+        ensures reply { result ≡ done (tagging_refusal (draft_outline self.old) tag) tt }
         ensures own { Own tagging result }
-        ensures after { draft-outline self.new ≡ left (tagging-refusal (draft-outline self.old) tag) (tagged (draft-outline self.old) tag) (draft-outline self.old) }
+        ensures after { draft_outline self.new ≡ left (tagging_refusal (draft_outline self.old) tag) (tagged (draft_outline self.old) tag) (draft_outline self.old) }
     {
         if let Some(refusal) = self.why_not(tag) {
             return Err(refusal);
@@ -98,7 +98,7 @@ impl Draft {
     }
 
     fn why_not(&self, tag: Tag) -> Option<Refusal>
-        ensures value { result ≡ tagging-refusal (draft-outline self.now) tag }
+        ensures value { result ≡ tagging_refusal (draft_outline self.now) tag }
         ensures own { OwnReason tagging result }
     {
         let held = self.count;
@@ -106,8 +106,8 @@ impl Draft {
     }
 
     fn push(&mut self, tag: Tag)
-        requires { tagging-refusal (draft-outline self.old) tag ≡ None }
-        ensures { draft-outline self.new ≡ tagged (draft-outline self.old) tag }
+        requires { tagging_refusal (draft_outline self.old) tag ≡ None }
+        ensures { draft_outline self.new ≡ tagged (draft_outline self.old) tag }
     {
         let at = self.count;
         self.tags[at] = tag;
@@ -116,7 +116,7 @@ impl Draft {
 
     // No more tags: the label can be sent.
     pub fn seal(self) -> Sealed
-        ensures { sealed-outline result ≡ draft-outline self }
+        ensures { sealed_outline result ≡ draft_outline self }
     {
         let Draft { len, count, tags } = self;
         Sealed { len, count, tags }
@@ -126,7 +126,7 @@ impl Draft {
 impl Sealed {
     // The label can be tagged again, and not be sent.
     pub fn reopen(self) -> Draft
-        ensures { draft-outline result ≡ sealed-outline self }
+        ensures { draft_outline result ≡ sealed_outline self }
     {
         let Sealed { len, count, tags } = self;
         Draft { len, count, tags }
@@ -134,7 +134,7 @@ impl Sealed {
 
     // The length of its text.
     pub fn len(&self) -> usize
-        ensures value { result ≡ (sealed-outline self.now).len }
+        ensures value { result ≡ (sealed_outline self.now).len }
         ensures some { 1 ≤ result }
         ensures short { result ≤ 128 }
     {
@@ -144,14 +144,14 @@ impl Sealed {
 
     // Its tags in the order in which they were added.
     pub fn tags(&self) -> &[Tag]
-        ensures { result.now ≡ (sealed-outline self.now).tags }
+        ensures { result.now ≡ (sealed_outline self.now).tags }
     {
         &self.tags[0..self.count]
     }
 
     // The label may be sent over this text.
     pub fn matches(&self, text: &[u8]) -> bool
-        ensures { result ≡ matches (sealed-outline self.now) text.now }
+        ensures { result ≡ matches (sealed_outline self.now) text.now }
     {
         text.len() == self.len && !has_control(text)
     }

@@ -2,7 +2,7 @@ ghost use Rattle.std.specs.Prelude.{◌≡◌, Bool, not, ◌&&◌};
 ghost use Rattle.label.specs.declared.tag.Tag.{Tag};
 ghost use Rattle.label.specs.Lists.{any};
 ghost use Rattle.label.specs.Lawful.{apart};
-ghost use Rattle.label.specs.Tags.{same_tag, behind, lies_in, sounds, shares, of-class, is-descriptor, is-other};
+ghost use Rattle.label.specs.Tags.{same_tag, behind, lies_in, sounds, shares, of_class, is_descriptor, is_other};
 
 use crate::category::{Category, is_silent};
 use crate::tag::Tag;
@@ -34,7 +34,7 @@ fn do_share(t: Tag, u: Tag) -> bool
 }
 
 fn is_of_class(class: u8, tag: Tag) -> bool
-    ensures { result ≡ of-class class tag }
+    ensures { result ≡ of_class class tag }
 {
     class == tag.class
 }
@@ -56,7 +56,7 @@ impl Question for SharesWith {
 pub struct OfClass(pub u8);
 
 impl Question for OfClass {
-    ghost answer = { λ s t. of-class s.0 t };
+    ghost answer = { λ s t. of_class s.0 t };
 
     fn ask(&self, tag: Tag) -> bool {
         is_of_class(self.0, tag)
@@ -64,7 +64,7 @@ impl Question for OfClass {
 }
 
 fn is_sounding_descriptor(tag: Tag) -> bool
-    ensures { result ≡ is-descriptor tag }
+    ensures { result ≡ is_descriptor tag }
 {
     match Category::of(tag.class) {
         Some(Category::Descriptor) => true,
@@ -77,7 +77,7 @@ fn is_sounding_descriptor(tag: Tag) -> bool
 pub struct IsDescriptor;
 
 impl Question for IsDescriptor {
-    ghost answer = { λ _ t. is-descriptor t };
+    ghost answer = { λ _ t. is_descriptor t };
 
     fn ask(&self, tag: Tag) -> bool {
         is_sounding_descriptor(tag)
@@ -89,7 +89,7 @@ impl Question for IsDescriptor {
 pub struct IsOther;
 
 impl Question for IsOther {
-    ghost answer = { λ _ t. is-other t };
+    ghost answer = { λ _ t. is_other t };
 
     fn ask(&self, tag: Tag) -> bool {
         !is_silent(tag.class) && !is_sounding_descriptor(tag)

@@ -1,5 +1,5 @@
 ghost use Rattle.std.specs.Prelude.{◌≡◌};
-ghost use Rattle.label.specs.Refusals.{case-of};
+ghost use Rattle.label.specs.Refusals.{case_of};
 
 // Why a call was refused. A refused call changes nothing.
 #[derive(Clone, Copy)]
@@ -35,7 +35,7 @@ pub enum Refusal {
 impl Refusal {
     // The number by which users know the refusal.
     pub fn number(self) -> u8
-        ensures { result ≡ (case-of self).number }
+        ensures { result ≡ (case_of self).number }
     {
         match self {
             Refusal::NoText => 1,

@@ -38,9 +38,9 @@ pub round : {X : Type 0} (p : List X) (i : ℕ) (full : Bool) → length p ≤ i
 round p i false h = append-nil p ∙ sym (take_all i p h)
 round p i true h = append-nil p ∙ sym (rw (drop_all i p h, take_all i p h))
 
-pub none-spared : {X : Type 0} (p : List X) (i : ℕ) (full : Bool) → length p ≤ i → unused p 0 true ≡ unused p i full
-none-spared p i false h = sym (drop_all i p h)
-none-spared p i true h = refl
+pub none_spared : {X : Type 0} (p : List X) (i : ℕ) (full : Bool) → length p ≤ i → unused p 0 true ≡ unused p i full
+none_spared p i false h = sym (drop_all i p h)
+none_spared p i true h = refl
 
 -- with no place at all nothing is held
 pub nowhere : {X : Type 0} (p : List X) (i : ℕ) (full : Bool) (x : X) → length p ≡ 0 →
@@ -49,7 +49,7 @@ nowhere {X} p i full x e =
     ap reverse (sym (round p i full (omega (arith, e))) ∙ append-nil p ∙ nil_from_length p e)
     ∙ ap (λ (n : ℕ). latest n (x ∷ reverse (as_added p i full))) (sym e)
 
-pub nowhere-spared : {X : Type 0} (p : List X) (i : ℕ) (full : Bool) → length p ≡ 0 → unused p i full ≡ drop 1 (unused p i full)
-nowhere-spared {X} p i full e =
-    let none : [] ≡ unused p i full = none-spared p i full (omega (arith, e)) in
+pub nowhere_spared : {X : Type 0} (p : List X) (i : ℕ) (full : Bool) → length p ≡ 0 → unused p i full ≡ drop 1 (unused p i full)
+nowhere_spared {X} p i full e =
+    let none : [] ≡ unused p i full = none_spared p i full (omega (arith, e)) in
     sym none ∙ ap (λ (l : List X). drop 1 l) none

@@ -6,11 +6,11 @@ use Rattle.std.proofs.lemmas.Option.{slice_get_read, slice_get_past}
 use Rattle.past.specs.Entries.{as_added}
 
 module _ {X : Type 0} (p : List X) (next : ℕ) where
-  pub len-full : (full : Bool) → full ≡ true → length p ≡ length (reverse (as_added p next full))
-  len-full full e = rw e (simp (length-reverse, length-append, length-take, length-drop) (omega arith))
+  pub len_full : (full : Bool) → full ≡ true → length p ≡ length (reverse (as_added p next full))
+  len_full full e = rw e (simp (length-reverse, length-append, length-take, length-drop) (omega arith))
 
-  pub len-part : (m : ℕ) → m ≡ min next (length p) → (full : Bool) → full ≡ false → m ≡ length (reverse (as_added p next full))
-  len-part m is full e = rw e (simp (length-reverse, length-take) is)
+  pub len_part : (m : ℕ) → m ≡ min next (length p) → (full : Bool) → full ≡ false → m ≡ length (reverse (as_added p next full))
+  len_part m is full e = rw e (simp (length-reverse, length-take) is)
 
 -- the i-th from the end of the list as added
 from_end : {X : Type 0} (xs : List X) (i k : ℕ) (x : X) → i < length xs → length xs - 1 - i ≡ k → x ≡ get_or xs k x → slice_get (reverse xs) i ≡ Some x
@@ -44,8 +44,8 @@ module _ {X : Type 0} (p : List X) (next i m : ℕ) (is : m ≡ min next (length
       ∙ sym (get_or_append_left (drop next p) (take next p) x (length p - 1 - i) (simp length-drop (omega (arith, is))))))
 
   -- behind the oldest
-  pub none-full : (full : Bool) → full ≡ true → length p ≤ i → slice_get (reverse (as_added p next full)) i ≡ None
-  none-full full e h = let l = len-full p next full e in slice_get_past (reverse (as_added p next full)) i (omega arith)
+  pub none_full : (full : Bool) → full ≡ true → length p ≤ i → slice_get (reverse (as_added p next full)) i ≡ None
+  none_full full e h = let l = len_full p next full e in slice_get_past (reverse (as_added p next full)) i (omega arith)
 
-  pub none-part : (full : Bool) → full ≡ false → m ≤ i → slice_get (reverse (as_added p next full)) i ≡ None
-  none-part full e h = let l = len-part p next m is full e in slice_get_past (reverse (as_added p next full)) i (omega arith)
+  pub none_part : (full : Bool) → full ≡ false → m ≤ i → slice_get (reverse (as_added p next full)) i ≡ None
+  none_part full e h = let l = len_part p next m is full e in slice_get_past (reverse (as_added p next full)) i (omega arith)

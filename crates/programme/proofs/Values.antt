@@ -5,16 +5,16 @@ use lib.Arith.{digits_lt, digits_div}
 use Rattle.std.specs.List.{prefix_len}
 use Rattle.std.proofs.lemmas.List.{append-nil}
 use Rattle.std.proofs.lemmas.Bool.{eqb-true, eq-eqb, ne_eqb, cases_eq, and_parts, leb-true, lt-ltb, le-ltb, cond-true, cond-false}
-use Rattle.programme.specs.Numerals.{isDigit, allDigits, numeral}
-use Rattle.programme.specs.Depth.{tenthsOf, shallow}
+use Rattle.programme.specs.Numerals.{is_digit, all_digits, numeral}
+use Rattle.programme.specs.Depth.{tenths_of, shallow}
 use Rattle.programme.specs.declared.fault.Fault.TheVariants.{TooDeep}
 
 abbrev step : ℕ → ℕ → ℕ
 step n b = n * 10 + (b - 48)
 
-tens-pos : (k : ℕ) → 0 < 10 ^ k
-tens-pos zero = omega arith
-tens-pos (suc k) = rw pow-suc (omega (arith, tens-pos k))
+tens_pos : (k : ℕ) → 0 < 10 ^ k
+tens_pos zero = omega arith
+tens_pos (suc k) = rw pow-suc (omega (arith, tens_pos k))
 
 shifted : (n d p : ℕ) → (n * 10 + d) * p ≡ n * (p * 10) + d * p
 shifted n d p = add-mul (n * 10) d p ∙ ap (λ x. x + d * p) (mul_assoc n 10 p ∙ ap (λ x. n * x) (mul_comm 10 p))
@@ -32,68 +32,68 @@ weighs n (b ∷ bs) =
     let m = zero-mul (p * 10) in
     rw w (omega (arith, front, self, a, z, m))
 
-joined-from : (n : ℕ) (ws fs : List ℕ) → fold step n (ws ++ fs) ≡ fold step (fold step n ws) fs
-joined-from n [] fs = refl
-joined-from n (b ∷ ws) fs = joined-from (step n b) ws fs
+joined_from : (n : ℕ) (ws fs : List ℕ) → fold step n (ws ++ fs) ≡ fold step (fold step n ws) fs
+joined_from n [] fs = refl
+joined_from n (b ∷ ws) fs = joined_from (step n b) ws fs
 
 pub joined : (ws fs : List ℕ) → numeral (ws ++ fs) ≡ numeral ws * 10 ^ length fs + numeral fs
-joined ws fs = joined-from 0 ws fs ∙ weighs (numeral ws) fs
+joined ws fs = joined_from 0 ws fs ∙ weighs (numeral ws) fs
 
-pub zero-numeral : (ws fs : List ℕ) → numeral ws ≡ 0 → numeral fs ≡ 0 → numeral (ws ++ fs) ≡ 0
-zero-numeral ws fs p q = joined ws fs ∙ rw (p, q) (omega (arith, zero-mul (10 ^ length fs)))
+pub zero_numeral : (ws fs : List ℕ) → numeral ws ≡ 0 → numeral fs ≡ 0 → numeral (ws ++ fs) ≡ 0
+zero_numeral ws fs p q = joined ws fs ∙ rw (p, q) (omega (arith, zero-mul (10 ^ length fs)))
 
-pub part-le : (ws fs : List ℕ) → numeral ws + numeral fs ≤ numeral (ws ++ fs)
-part-le ws fs = omega (arith, joined ws fs, le-mul_of_pos_right (numeral ws) (tens-pos (length fs)))
+pub part_le : (ws fs : List ℕ) → numeral ws + numeral fs ≤ numeral (ws ++ fs)
+part_le ws fs = omega (arith, joined ws fs, le-mul_of_pos_right (numeral ws) (tens_pos (length fs)))
 
 -- a row of digits only
-first_of : (t : Bool) (a b : ℕ) → eqb (cond t (1 + a) 0) (suc b) ≡ true → (t ≡ true) × (a ≡ b)
-first_of true a b e = (refl, omega (arith, eqb-true (1 + a) (suc b) e))
-first_of false a b e = absurd (omega (arith, eqb-true 0 (suc b) e))
+first_tag : (t : Bool) (a b : ℕ) → eqb (cond t (1 + a) 0) (suc b) ≡ true → (t ≡ true) × (a ≡ b)
+first_tag true a b e = (refl, omega (arith, eqb-true (1 + a) (suc b) e))
+first_tag false a b e = absurd (omega (arith, eqb-true 0 (suc b) e))
 
-pub first-digit : (b : ℕ) (bs : List ℕ) → allDigits (b ∷ bs) ≡ true → b - 48 < 10
-first-digit b bs h =
-    let t = and_parts (leb 48 b) (leb b 57) (first_of (isDigit b) (prefix_len isDigit bs) (length bs) h).0 in
+pub first_digit : (b : ℕ) (bs : List ℕ) → all_digits (b ∷ bs) ≡ true → b - 48 < 10
+first_digit b bs h =
+    let t = and_parts (leb 48 b) (leb b 57) (first_tag (is_digit b) (prefix_len is_digit bs) (length bs) h).0 in
     omega (arith, leb-true b 57 t.1)
 
-behind-digits : (b : ℕ) (bs : List ℕ) → allDigits (b ∷ bs) ≡ true → allDigits bs ≡ true
-behind-digits b bs h = eq-eqb _ _ (first_of (isDigit b) (prefix_len isDigit bs) (length bs) h).1
+behind_digits : (b : ℕ) (bs : List ℕ) → all_digits (b ∷ bs) ≡ true → all_digits bs ≡ true
+behind_digits b bs h = eq-eqb _ _ (first_tag (is_digit b) (prefix_len is_digit bs) (length bs) h).1
 
-numeral-first : (b : ℕ) (bs : List ℕ) → numeral (b ∷ bs) ≡ (b - 48) * 10 ^ length bs + numeral bs
-numeral-first b bs = weighs (0 * 10 + (b - 48)) bs ∙ (let e : 0 * 10 + (b - 48) ≡ b - 48 = omega arith in rw e)
+numeral_first : (b : ℕ) (bs : List ℕ) → numeral (b ∷ bs) ≡ (b - 48) * 10 ^ length bs + numeral bs
+numeral_first b bs = weighs (0 * 10 + (b - 48)) bs ∙ (let e : 0 * 10 + (b - 48) ≡ b - 48 = omega arith in rw e)
 
-numeral-lt : (bs : List ℕ) → allDigits bs ≡ true → numeral bs < 10 ^ length bs
-numeral-lt [] h = omega arith
-numeral-lt (b ∷ bs) h =
-    rw (numeral-first b bs, pow-suc 10 (length bs), mul_comm (10 ^ length bs) 10)
-    (digits_lt (first-digit b bs h) (numeral-lt bs (behind-digits b bs h)))
+numeral_lt : (bs : List ℕ) → all_digits bs ≡ true → numeral bs < 10 ^ length bs
+numeral_lt [] h = omega arith
+numeral_lt (b ∷ bs) h =
+    rw (numeral_first b bs, pow-suc 10 (length bs), mul_comm (10 ^ length bs) 10)
+    (digits_lt (first_digit b bs h) (numeral_lt bs (behind_digits b bs h)))
 
 -- the tenths are the metres and the first digit behind the mark
-pub tenths-are : (ws fs : List ℕ) → allDigits fs ≡ true → tenthsOf ws fs ≡ numeral ws * 10 + (get_or fs 0 48 - 48)
-tenths-are ws [] h = rw (append-nil ws, div-one (numeral ws * 10)) (omega arith)
-tenths-are ws (b ∷ fs) h =
+pub tenths_are : (ws fs : List ℕ) → all_digits fs ≡ true → tenths_of ws fs ≡ numeral ws * 10 + (get_or fs 0 48 - 48)
+tenths_are ws [] h = rw (append-nil ws, div-one (numeral ws * 10)) (omega arith)
+tenths_are ws (b ∷ fs) h =
     let p = 10 ^ length fs in
     let v : numeral (ws ++ (b ∷ fs)) ≡ (numeral ws * 10 + (b - 48)) * p + numeral fs
-    = joined ws (b ∷ fs) ∙ rw (pow-suc 10 (length fs), numeral-first b fs) (omega (arith, shifted (numeral ws) (b - 48) p)) in
+    = joined ws (b ∷ fs) ∙ rw (pow-suc 10 (length fs), numeral_first b fs) (omega (arith, shifted (numeral ws) (b - 48) p)) in
     let ten : 0 < 10 = omega arith in
     rw (v, pow-suc 10 (length fs), mul-div-mul_right ((numeral ws * 10 + (b - 48)) * p + numeral fs) p ten)
-    (digits_div (numeral ws * 10 + (b - 48)) (numeral-lt fs (behind-digits b fs h)))
+    (digits_div (numeral ws * 10 + (b - 48)) (numeral_lt fs (behind_digits b fs h)))
 
-pub tenth-lt : (fs : List ℕ) → allDigits fs ≡ true → get_or fs 0 48 - 48 < 10
-tenth-lt [] h = omega arith
-tenth-lt (b ∷ bs) h = first-digit b bs h
+pub tenth_lt : (fs : List ℕ) → all_digits fs ≡ true → get_or fs 0 48 - 48 < 10
+tenth_lt [] h = omega arith
+tenth_lt (b ∷ bs) h = first_digit b bs h
 
 -- the program's tests: u is what it has of a row, at most 100
 pub both_zero : (ws fs : List ℕ) (u : ℕ) → numeral ws ≡ 0 → u ≡ min 100 (numeral fs) → eqb u 0 ≡ eqb (numeral (ws ++ fs)) 0
 both_zero ws fs u z e =
     ⊎_elim
-    (λ (q : numeral fs ≡ 0). eq-eqb u 0 (omega arith) ∙ sym (eq-eqb _ 0 (zero-numeral ws fs z q)))
-    (λ (q : numeral fs ≡ 0 → ⊥). ne_eqb u 0 (λ k. q (omega arith)) ∙ sym (ne_eqb _ 0 (λ k. q (omega (arith, part-le ws fs)))))
+    (λ (q : numeral fs ≡ 0). eq-eqb u 0 (omega arith) ∙ sym (eq-eqb _ 0 (zero_numeral ws fs z q)))
+    (λ (q : numeral fs ≡ 0 → ⊥). ne_eqb u 0 (λ k. q (omega arith)) ∙ sym (ne_eqb _ 0 (λ k. q (omega (arith, part_le ws fs)))))
     (cases_eq (numeral fs) 0)
 
-pub too-deep : (ws fs : List ℕ) (u : ℕ) → allDigits fs ≡ true → u ≡ min 100 (numeral ws) → u ≡ 100 → Err TooDeep ≡ shallow (tenthsOf ws fs)
-too-deep ws fs u h e f = sym (cond-false _ _ _ (le-ltb (tenthsOf ws fs) 1000 (omega (arith, tenths-are ws fs h))))
+pub too_deep : (ws fs : List ℕ) (u : ℕ) → all_digits fs ≡ true → u ≡ min 100 (numeral ws) → u ≡ 100 → Err TooDeep ≡ shallow (tenths_of ws fs)
+too_deep ws fs u h e f = sym (cond-false _ _ _ (le-ltb (tenths_of ws fs) 1000 (omega (arith, tenths_are ws fs h))))
 
-pub measured : (ws fs : List ℕ) (u t : ℕ) → allDigits fs ≡ true → u ≡ min 100 (numeral ws) → (u ≡ 100 → ⊥) → t ≡ get_or fs 0 48 - 48 → Ok (u * 10 + t) ≡ shallow (tenthsOf ws fs)
+pub measured : (ws fs : List ℕ) (u t : ℕ) → all_digits fs ≡ true → u ≡ min 100 (numeral ws) → (u ≡ 100 → ⊥) → t ≡ get_or fs 0 48 - 48 → Ok (u * 10 + t) ≡ shallow (tenths_of ws fs)
 measured ws fs u t h e f g =
-    let v : u * 10 + t ≡ tenthsOf ws fs = omega (arith, tenths-are ws fs h) in
-    sym (cond-true _ _ _ (lt-ltb (tenthsOf ws fs) 1000 (omega (arith, tenth-lt fs h))) ∙ ap Ok (sym v))
+    let v : u * 10 + t ≡ tenths_of ws fs = omega (arith, tenths_are ws fs h) in
+    sym (cond-true _ _ _ (lt-ltb (tenths_of ws fs) 1000 (omega (arith, tenth_lt fs h))) ∙ ap Ok (sym v))

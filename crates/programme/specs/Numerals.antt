@@ -3,11 +3,11 @@ use Rattle.std.specs.Prelude.{ℕ, ◌+◌, ◌-◌, ◌*◌, Bool, ◌&&◌, Li
 use Rattle.std.specs.List.{prefix_len}
 
 -- '0' is 48 and '9' is 57
-abbrev pub isDigit : ℕ → Bool
-isDigit b = nat_le 48 b && nat_le b 57
+abbrev pub is_digit : ℕ → Bool
+is_digit b = nat_le 48 b && nat_le b 57
 
-abbrev pub allDigits : List ℕ → Bool
-allDigits bs = prefix_len isDigit bs == length bs
+abbrev pub all_digits : List ℕ → Bool
+all_digits bs = prefix_len is_digit bs == length bs
 
 -- each digit counts ten times as much as the one behind it
 abbrev pub numeral : List ℕ → ℕ

@@ -1,8 +1,8 @@
 // The depth that a gauge's reading gives.
 ghost use Rattle.std.specs.Prelude.{◌≡◌, ◌-◌, true, cond, ◌++◌, IfSome, ◌==◌, slice_index_or};
 ghost use Rattle.std.specs.Option.{option_map};
-ghost use Rattle.programme.specs.Numerals.{allDigits, numeral};
-ghost use Rattle.programme.specs.Depth.{isMark, number_of, parts_of, tenthsOf, shallow, judged, depth_of};
+ghost use Rattle.programme.specs.Numerals.{all_digits, numeral};
+ghost use Rattle.programme.specs.Depth.{is_mark, number_of, parts_of, tenths_of, shallow, judged, depth_of};
 
 use crate::digits::{digits, up_to_100};
 use crate::fault::Fault;
@@ -15,14 +15,14 @@ struct Number<'a> {
 }
 
 fn is_mark(b: u8) -> bool
-    ensures { result ≡ isMark b }
+    ensures { result ≡ is_mark b }
 {
     b == b'.' || b == b','
 }
 
 fn split_number(s: &[u8]) -> Option<Number<'_>>
     ensures value { option_map parts_of result ≡ number_of s.now }
-    ensures digits { IfSome result (λ n. allDigits n.fraction.now ≡ true) }
+    ensures digits { IfSome result (λ n. all_digits n.fraction.now ≡ true) }
 {
     let n = digits(s);
     if n == 0 {
@@ -60,8 +60,8 @@ impl Number<'_> {
     }
 
     fn tenths(self) -> Result<u16, Fault>
-        requires { allDigits self.fraction.now ≡ true }
-        ensures { result ≡ shallow (tenthsOf self.entry.whole.now self.entry.fraction.now) }
+        requires { all_digits self.fraction.now ≡ true }
+        ensures { result ≡ shallow (tenths_of self.entry.whole.now self.entry.fraction.now) }
     {
         let metres = up_to_100(self.whole);
         if metres == 100 {

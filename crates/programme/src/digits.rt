@@ -1,17 +1,17 @@
 // Rows of decimal digits.
 ghost use Rattle.std.specs.Prelude.{◌≡◌, ◌≤◌, min, length};
 ghost use Rattle.std.specs.List.{prefix_len};
-ghost use Rattle.programme.specs.Numerals.{isDigit, numeral};
+ghost use Rattle.programme.specs.Numerals.{is_digit, numeral};
 
 pub(crate) fn is_digit(b: u8) -> bool
-    ensures { result ≡ isDigit b }
+    ensures { result ≡ is_digit b }
 {
     b >= b'0' && b <= b'9'
 }
 
 // How many digits `s` begins with.
 pub(crate) fn digits(s: &[u8]) -> usize
-    ensures value { result ≡ prefix_len isDigit s.now }
+    ensures value { result ≡ prefix_len is_digit s.now }
     ensures within { result ≤ length s.now }
 {
     let mut n = 0;

@@ -1,5 +1,5 @@
 ghost use Rattle.std.specs.Prelude.{◌≡◌};
-ghost use Rattle.programme.specs.Faults.{messageOf};
+ghost use Rattle.programme.specs.Faults.{message_of};
 ghost use Rattle.programme.specs.declared.fault.Fault.TheVariants.{NoMemory};
 
 use std::alloc::AllocError;
@@ -21,13 +21,13 @@ pub enum Fault {
 impl Fault {
     // What to tell whoever wrote the line.
     pub fn message(self) -> &'static str
-        ensures { result.now ≡ messageOf self }
+        ensures { result.now ≡ message_of self }
     {
         self.words()
     }
 
     fn words(self) -> &'static str
-        ensures { result.now ≡ messageOf self }
+        ensures { result.now ≡ message_of self }
     {
         match self {
             Fault::NoTime => "no time such as 06:00",

@@ -1,6 +1,6 @@
 // Reads the programme, one line at a time.
 ghost use Rattle.std.specs.Prelude.{◌≡◌, ◌≤◌, length};
-ghost use Rattle.programme.specs.Lines.{heard, separatorAt, reading_of, gaugeOf, songOf, announcementOf, spokenOf, entry_of, line_of};
+ghost use Rattle.programme.specs.Lines.{heard, separator_at, reading_of, gauge_of, song_of, announcement_of, spoken_of, entry_of, line_of};
 
 use crate::depth::read_depth;
 use crate::entry::Entry;
@@ -12,7 +12,7 @@ use crate::time::is_time;
 
 // Where the field of the time ends: at a semicolon if there is one outside quotes, else at a comma.
 fn separator(s: &[u8]) -> usize
-    ensures value { result ≡ separatorAt s.now }
+    ensures value { result ≡ separator_at s.now }
     ensures within { result ≤ length s.now }
 {
     let semicolon = outside_quotes(s, b';');
@@ -36,14 +36,14 @@ fn reading<'a>(time: &'a [u8], metres: &[u8]) -> Result<Entry<'a>, Fault>
 }
 
 fn gauge(s: &[u8]) -> Result<Entry<'_>, Fault>
-    ensures { heard result ≡ gaugeOf s.now }
+    ensures { heard result ≡ gauge_of s.now }
 {
     let n = separator(s);
     reading(field_in(&s[0..n]), field_in(from(s, n + 1)))
 }
 
 fn song(s: &[u8]) -> Result<Entry<'_>, Fault>
-    ensures { heard result ≡ songOf s.now }
+    ensures { heard result ≡ song_of s.now }
 {
     let n = slash(s);
     let title = trim(&s[0..n]);
@@ -55,7 +55,7 @@ fn song(s: &[u8]) -> Result<Entry<'_>, Fault>
 }
 
 fn announcement(s: &[u8]) -> Result<Entry<'_>, Fault>
-    ensures { heard result ≡ announcementOf s.now }
+    ensures { heard result ≡ announcement_of s.now }
 {
     if s.is_empty() {
         return Err(Fault::NothingToSay);
@@ -65,7 +65,7 @@ fn announcement(s: &[u8]) -> Result<Entry<'_>, Fault>
 
 // A keyword, and what stands behind it.
 fn spoken(s: &[u8]) -> Result<Entry<'_>, Fault>
-    ensures { heard result ≡ spokenOf s.now }
+    ensures { heard result ≡ spoken_of s.now }
 {
     let n = word_length(s);
     let word = &s[0..n];

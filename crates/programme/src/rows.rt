@@ -2,11 +2,11 @@
 ghost use Rattle.std.specs.Prelude.{◌≡◌, ◌≤◌, false, not, length, drop};
 ghost use Rattle.std.specs.List.{prefix_len};
 ghost use Rattle.std.specs.Str.{bytes_eq};
-ghost use Rattle.programme.specs.Rows.{isSpace, isOther, trimFront, trimEnd, trimmed, withoutReturn, unquoted, field, turned, outside, slashFirst, slashAt};
+ghost use Rattle.programme.specs.Rows.{is_space, is_other, trim_front, trim_end, trimmed, without_return, unquoted, field, turned, outside, slash_first, slash_at};
 
 // How many spaces `s` begins with.
 pub(crate) fn spaces(s: &[u8]) -> usize
-    ensures value { result ≡ prefix_len isSpace s.now }
+    ensures value { result ≡ prefix_len is_space s.now }
     ensures within { result ≤ length s.now }
 {
     let mut n = 0;
@@ -18,7 +18,7 @@ pub(crate) fn spaces(s: &[u8]) -> usize
 
 // How many bytes stand before the first space.
 pub(crate) fn word_length(s: &[u8]) -> usize
-    ensures value { result ≡ prefix_len isOther s.now }
+    ensures value { result ≡ prefix_len is_other s.now }
     ensures within { result ≤ length s.now }
 {
     let mut n = 0;
@@ -36,7 +36,7 @@ pub(crate) fn from(s: &[u8], n: usize) -> &[u8]
 }
 
 fn trim_end(s: &[u8]) -> &[u8]
-    ensures { result.now ≡ trimEnd s.now }
+    ensures { result.now ≡ trim_end s.now }
 {
     let mut n = s.len();
     while n > 0 && s[n - 1] == b' ' {
@@ -52,7 +52,7 @@ pub(crate) fn trim(s: &[u8]) -> &[u8]
 }
 
 pub(crate) fn without_return(s: &[u8]) -> &[u8]
-    ensures { result.now ≡ withoutReturn s.now }
+    ensures { result.now ≡ without_return s.now }
 {
     let n = s.len();
     if n == 0 {
@@ -103,7 +103,7 @@ pub(crate) fn outside_quotes(s: &[u8], b: u8) -> usize
 }
 
 fn begins_with_slash(s: &[u8]) -> bool
-    ensures { result ≡ slashFirst s.now }
+    ensures { result ≡ slash_first s.now }
 {
     if s.len() < 3 {
         return false;
@@ -113,7 +113,7 @@ fn begins_with_slash(s: &[u8]) -> bool
 
 // How many bytes stand before the first slash between two spaces.
 pub(crate) fn slash(s: &[u8]) -> usize
-    ensures value { result ≡ slashAt s.now }
+    ensures value { result ≡ slash_at s.now }
     ensures within { result ≤ length s.now }
 {
     let mut i = 0;

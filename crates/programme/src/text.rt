@@ -1,7 +1,7 @@
 // The label that an entry is sent as.
 ghost use Rattle.std.specs.Prelude.{◌≡◌, ◌<◌, [], ◌∷◌, IfOk, if◌then◌else◌, Ok, nat_lt};
-ghost use Rattle.programme.specs.Lines.{saidBy};
-ghost use Rattle.programme.specs.Labels.{depthDigits, readingText, songText, Composes, Marks, Sends, MarksParts, readingLabel, songLabel};
+ghost use Rattle.programme.specs.Lines.{said_by};
+ghost use Rattle.programme.specs.Labels.{depth_digits, reading_text, song_text, Composes, Marks, Sends, MarksParts, reading_label, song_label};
 
 use crate::composed::Composed;
 use crate::entry::Entry;
@@ -17,7 +17,7 @@ const ARTIST: u8 = 4;
 const DEPTH: u8 = 56;
 
 fn song_text(heap: Global, title: &[u8], artist: &[u8]) -> Result<Vec<u8>, AllocError>
-    ensures { IfOk result (λ v. v.items ≡ songText title.now artist.now) }
+    ensures { IfOk result (λ v. v.items ≡ song_text title.now artist.now) }
 {
     let mut text = Vec::from_slice(heap, b"You are listening to \"")?;
     text.extend_from_slice(title)?;
@@ -27,7 +27,7 @@ fn song_text(heap: Global, title: &[u8], artist: &[u8]) -> Result<Vec<u8>, Alloc
 }
 
 fn song(heap: Global, title: &[u8], artist: &[u8]) -> Result<Composed, Fault>
-    ensures label { Composes result (songLabel title.now artist.now) }
+    ensures label { Composes result (song_label title.now artist.now) }
     ensures marks { Marks result (title.now ∷ (artist.now ∷ [])) }
 {
     if title.len() == 0 || artist.len() == 0 {
@@ -61,7 +61,7 @@ fn left_out(tenths: u16) -> usize
 
 fn reading_text(heap: Global, tenths: u16) -> Result<Vec<u8>, AllocError>
     requires { tenths < 1000 }
-    ensures { IfOk result (λ v. v.items ≡ readingText tenths) }
+    ensures { IfOk result (λ v. v.items ≡ reading_text tenths) }
 {
     let tens = b'0' + (tenths / 100) as u8;
     let units = b'0' + (tenths / 10 % 10) as u8;
@@ -74,8 +74,8 @@ fn reading_text(heap: Global, tenths: u16) -> Result<Vec<u8>, AllocError>
 }
 
 fn reading(heap: Global, tenths: u16) -> Result<Composed, Fault>
-    ensures label { Composes result (readingLabel tenths) }
-    ensures marks { Marks result (depthDigits tenths ∷ []) }
+    ensures label { Composes result (reading_label tenths) }
+    ensures marks { Marks result (depth_digits tenths ∷ []) }
 {
     if tenths >= 1000 {
         return Err(Fault::TooDeep);
@@ -106,8 +106,8 @@ fn announcement(heap: Global, said: &[u8]) -> Result<Composed, Fault>
 
 // The label that an entry is sent as, where there is anything to send.
 pub fn compose(heap: Global, entry: Entry) -> Option<Result<Composed, Fault>>
-    ensures label { Sends (saidBy entry.entry) result }
-    ensures marks { MarksParts (saidBy entry.entry) result }
+    ensures label { Sends (said_by entry.entry) result }
+    ensures marks { MarksParts (said_by entry.entry) result }
 {
     match entry {
         Entry::Nothing => None,

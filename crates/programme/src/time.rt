@@ -1,27 +1,27 @@
 // The time of a gauge's reading.
 ghost use Rattle.std.specs.Prelude.{◌≡◌};
-ghost use Rattle.programme.specs.Times.{isHour, isSixtieth, isPastHour, isClock, datedFrom, isTime};
+ghost use Rattle.programme.specs.Times.{is_hour, is_sixtieth, is_past_hour, is_clock, dated_from, is_time};
 
 use crate::digits::is_digit;
 use crate::rows::from;
 
 // Two digits below 24.
 fn is_hour(tens: u8, units: u8) -> bool
-    ensures { result ≡ isHour tens units }
+    ensures { result ≡ is_hour tens units }
 {
     is_digit(tens) && is_digit(units) && (tens < b'2' || tens == b'2' && units < b'4')
 }
 
 // Two digits below 60.
 fn is_sixtieth(tens: u8, units: u8) -> bool
-    ensures { result ≡ isSixtieth tens units }
+    ensures { result ≡ is_sixtieth tens units }
 {
     is_digit(tens) && is_digit(units) && tens < b'6'
 }
 
 // Minutes, and seconds if any.
 fn is_past_hour(s: &[u8]) -> bool
-    ensures { result ≡ isPastHour s.now }
+    ensures { result ≡ is_past_hour s.now }
 {
     if s.len() == 2 {
         return is_sixtieth(s[0], s[1]);
@@ -30,7 +30,7 @@ fn is_past_hour(s: &[u8]) -> bool
 }
 
 fn is_clock(s: &[u8]) -> bool
-    ensures { result ≡ isClock s.now }
+    ensures { result ≡ is_clock s.now }
 {
     if s.len() < 4 {
         return false;
@@ -43,7 +43,7 @@ fn is_clock(s: &[u8]) -> bool
 
 // A clock's time behind the rest of a date word.
 fn is_dated(s: &[u8]) -> bool
-    ensures { result ≡ datedFrom s.now }
+    ensures { result ≡ dated_from s.now }
 {
     let mut i = 0;
     while i < s.len() {
@@ -60,7 +60,7 @@ fn is_dated(s: &[u8]) -> bool
 }
 
 pub(crate) fn is_time(s: &[u8]) -> bool
-    ensures { result ≡ isTime s.now }
+    ensures { result ≡ is_time s.now }
 {
     if is_clock(s) {
         return true;

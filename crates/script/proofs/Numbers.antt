@@ -5,7 +5,7 @@ use Rattle.std.proofs.lemmas.Bool.{cases_lt, lt-ltb, le-ltb, cond-true, cond-fal
 use Rattle.std.specs.Option.{ok_or}
 use Rattle.script.specs.declared.fault.Fault.{Fault}
 use Rattle.script.specs.declared.fault.Fault.TheVariants.{Wrong}
-use Rattle.script.specs.Digits.{and_then, digit-in, written, fitting}
+use Rattle.script.specs.Digits.{and_then, digit_in, written, fitting}
 
 -- the number that these digits write behind n, if it fits
 abbrev pub reading : ℕ → ℕ → List ℕ → Option ℕ
@@ -17,27 +17,27 @@ fits n h = cond-true _ (Some n) None (lt-ltb n (2 ^ 32) h)
 pub fits_not : (n : ℕ) → 2 ^ 32 ≤ n → fitting n ≡ None
 fits_not n h = cond-false _ (Some n) None (le-ltb n (2 ^ 32) h)
 
-too-big : (base m : ℕ) (ds : List ℕ) → 1 ≤ base → 2 ^ 32 ≤ m → reading base m ds ≡ None
-too-big base m [] pos big = fits_not m big
-too-big base m (b ∷ ds) pos big =
-    elim (digit-in base b) as (λ o. and_then (and_then o (λ d. written base (m * base + d) ds)) fitting ≡ None)
-    [ None ↦ refl | Some d ↦ too-big base (m * base + d) ds pos (omega (arith, mul-le-mul_left m pos, mul-one m)) ]
+too_big : (base m : ℕ) (ds : List ℕ) → 1 ≤ base → 2 ^ 32 ≤ m → reading base m ds ≡ None
+too_big base m [] pos big = fits_not m big
+too_big base m (b ∷ ds) pos big =
+    elim (digit_in base b) as (λ o. and_then (and_then o (λ d. written base (m * base + d) ds)) fitting ≡ None)
+    [ None ↦ refl | Some d ↦ too_big base (m * base + d) ds pos (omega (arith, mul-le-mul_left m pos, mul-one m)) ]
 
 one_more : (base m : ℕ) (ds : List ℕ) → 1 ≤ base → reading base m ds ≡ and_then (fitting m) (λ k. reading base k ds)
 one_more base m ds pos =
     ⊎_elim
     (λ lt. sym (ap (λ (o : Option ℕ). and_then o (λ k. reading base k ds)) (fits m lt)))
-    (λ ge. too-big base m ds pos ge ∙ sym (ap (λ (o : Option ℕ). and_then o (λ k. reading base k ds)) (fits_not m ge)))
+    (λ ge. too_big base m ds pos ge ∙ sym (ap (λ (o : Option ℕ). and_then o (λ k. reading base k ds)) (fits_not m ge)))
     (cases_lt m (2 ^ 32))
 
 -- a number with one more digit behind it
 abbrev pub next : ℕ → ℕ → ℕ → Option ℕ
-next base n b = and_then (digit-in base b) (λ d. fitting (n * base + d))
+next base n b = and_then (digit_in base b) (λ d. fitting (n * base + d))
 
 -- the first digit, and then the others
-first-digit : (base n b : ℕ) (ds : List ℕ) → 1 ≤ base → reading base n (b ∷ ds) ≡ and_then (next base n b) (λ m. reading base m ds)
-first-digit base n b ds pos =
-    elim (digit-in base b) as (λ o. and_then (and_then o (λ d. written base (n * base + d) ds)) fitting ≡ and_then (and_then o (λ d. fitting (n * base + d))) (λ m. reading base m ds))
+first_digit : (base n b : ℕ) (ds : List ℕ) → 1 ≤ base → reading base n (b ∷ ds) ≡ and_then (next base n b) (λ m. reading base m ds)
+first_digit base n b ds pos =
+    elim (digit_in base b) as (λ o. and_then (and_then o (λ d. written base (n * base + d) ds)) fitting ≡ and_then (and_then o (λ d. fitting (n * base + d))) (λ m. reading base m ds))
     [ None ↦ refl | Some d ↦ one_more base (n * base + d) ds pos ]
 
 -- one turn of the loop, whatever came of the digit
@@ -45,7 +45,7 @@ pub turn : (base n i : ℕ) (ds : List ℕ) (r : Option ℕ) → 1 ≤ base → 
     reading base n (drop i ds) ≡ reading base 0 ds → and_then r (λ m. reading base m (drop (i + 1) ds)) ≡ reading base 0 ds
 turn base n i ds r pos lt e inv =
     sym (ap (λ (o : Option ℕ). and_then o (λ m. reading base m (drop (i + 1) ds))) e)
-    ∙ sym (first-digit base n (get_or ds i 0) (drop (i + 1) ds) pos)
+    ∙ sym (first_digit base n (get_or ds i 0) (drop (i + 1) ds) pos)
     ∙ sym (ap (reading base n) (drop_more ds i 0 lt))
     ∙ inv
 
@@ -58,6 +58,6 @@ pub flag_ok : (o : Option ℕ) (n : ℕ) → ◌≡◌ {A = Result ℕ Fault} (O
 flag_ok None n e = absurd (let z : ◌≡◌ {A = ℕ} 0 1 = cc in omega arith)
 flag_ok (Some m) n e = let q : n ≡ m = cc in ap (λ x. Ok (eqb x 1)) q
 
-pub flag-err : (o : Option ℕ) (f : Fault) → ◌≡◌ {A = Result ℕ Fault} (Err f) (ok_or o Wrong) → ◌≡◌ {A = Result Bool Fault} (Err f) (ok_or (and_then o (λ m. Some (eqb m 1))) Wrong)
-flag-err None f e = let q : f ≡ Wrong = cc in ap Err q
-flag-err (Some m) f e = absurd (let z : ◌≡◌ {A = ℕ} 0 1 = cc in omega arith)
+pub flag_err : (o : Option ℕ) (f : Fault) → ◌≡◌ {A = Result ℕ Fault} (Err f) (ok_or o Wrong) → ◌≡◌ {A = Result Bool Fault} (Err f) (ok_or (and_then o (λ m. Some (eqb m 1))) Wrong)
+flag_err None f e = let q : f ≡ Wrong = cc in ap Err q
+flag_err (Some m) f e = absurd (let z : ◌≡◌ {A = ℕ} 0 1 = cc in omega arith)

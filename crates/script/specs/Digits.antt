@@ -6,40 +6,40 @@ abbrev pub between : ℕ → ℕ → ℕ → Bool
 between low high b = nat_le low b && nat_le b high
 
 -- the value of a hexadecimal digit: 0 to 9, a to f, A to F
-abbrev pub digit-of : ℕ → Option ℕ
-digit-of b =
+abbrev pub digit_of : ℕ → Option ℕ
+digit_of b =
     cond (between 48 57 b) (Some (b - 48))
     (cond (between 97 102 b) (Some (b - 97 + 10))
     (cond (between 65 70 b) (Some (b - 65 + 10)) None))
 
 -- the digit of a value below 16, in lower case
-abbrev pub lower-digit : ℕ → ℕ
-lower-digit v = cond (nat_lt v 10) (48 + v) (97 + (v - 10))
+abbrev pub lower_digit : ℕ → ℕ
+lower_digit v = cond (nat_lt v 10) (48 + v) (97 + (v - 10))
 
 -- the two digits of a byte, the high one first
-abbrev pub hex-pair : ℕ → List ℕ
-hex-pair b = lower-digit (b / 16) ∷ lower-digit (b % 16) ∷ []
+abbrev pub hex_pair : ℕ → List ℕ
+hex_pair b = lower_digit (b / 16) ∷ lower_digit (b % 16) ∷ []
 
-abbrev pub hex-of : List ℕ → List ℕ
-hex-of bs = flat_map hex-pair bs
+abbrev pub hex_of : List ℕ → List ℕ
+hex_of bs = flat_map hex_pair bs
 
 -- bytes as they are printed: `-` stands for none
 abbrev pub printed : List ℕ → List ℕ
 printed [] = 45 ∷ []
-printed (b ∷ bs) = hex-of (b ∷ bs)
+printed (b ∷ bs) = hex_of (b ∷ bs)
 
 abbrev pub and_then : {X Y : Type 0} → Option X → (X → Option Y) → Option Y
 and_then None f = None
 and_then (Some x) f = f x
 
 -- the value of a digit in a base
-abbrev pub digit-in : ℕ → ℕ → Option ℕ
-digit-in base b = and_then (digit-of b) (λ d. cond (nat_lt d base) (Some d) None)
+abbrev pub digit_in : ℕ → ℕ → Option ℕ
+digit_in base b = and_then (digit_of b) (λ d. cond (nat_lt d base) (Some d) None)
 
 -- what digits write behind a number: each makes what stands before it worth the base times more; nothing at a stray character
 abbrev pub written : ℕ → ℕ → List ℕ → Option ℕ
 written base n [] = Some n
-written base n (b ∷ bs) = and_then (digit-in base b) (λ d. written base (n * base + d) bs)
+written base n (b ∷ bs) = and_then (digit_in base b) (λ d. written base (n * base + d) bs)
 
 -- numbers have 32 bits
 abbrev pub fitting : ℕ → Option ℕ
@@ -57,16 +57,16 @@ abbrev pub number_of : List ℕ → Option ℕ
 number_of word = cond (hexadecimal word) (number_in 16 (drop 2 word)) (number_in 10 word)
 
 -- a number of at most this size
-abbrev pub number-to : ℕ → List ℕ → Option ℕ
-number-to most word = and_then (number_of word) (λ n. cond (nat_le n most) (Some n) None)
+abbrev pub number_to : ℕ → List ℕ → Option ℕ
+number_to most word = and_then (number_of word) (λ n. cond (nat_le n most) (Some n) None)
 
 -- 0 or 1
-abbrev pub flag-of : List ℕ → Option Bool
-flag-of word = and_then (number-to 1 word) (λ n. Some (n == 1))
+abbrev pub flag_of : List ℕ → Option Bool
+flag_of word = and_then (number_to 1 word) (λ n. Some (n == 1))
 
 -- a byte by its two digits
 abbrev pub byte_of : ℕ → ℕ → Option ℕ
-byte_of high low = and_then (digit-of high) (λ h. and_then (digit-of low) (λ l. Some (h * 16 + l)))
+byte_of high low = and_then (digit_of high) (λ h. and_then (digit_of low) (λ l. Some (h * 16 + l)))
 
 -- a byte in front of bytes
 abbrev pub with_byte : ℕ → Option (List ℕ) → Option (List ℕ)
@@ -74,12 +74,12 @@ with_byte b None = None
 with_byte b (Some bs) = Some (b ∷ bs)
 
 -- the bytes that digits write, two to a byte; nothing at a stray character or an odd number of digits
-unfoldable pub hex-bytes : List ℕ → Option (List ℕ)
-hex-bytes [] = Some []
-hex-bytes (h ∷ []) = None
-hex-bytes (h ∷ (l ∷ ds)) = and_then (byte_of h l) (λ b. with_byte b (hex-bytes ds))
+unfoldable pub hex_bytes : List ℕ → Option (List ℕ)
+hex_bytes [] = Some []
+hex_bytes (h ∷ []) = None
+hex_bytes (h ∷ (l ∷ ds)) = and_then (byte_of h l) (λ b. with_byte b (hex_bytes ds))
 
 -- a word of bytes: `-` stands for none
 abbrev pub bytes_of : List ℕ → Option (List ℕ)
 bytes_of [] = None
-bytes_of (b ∷ bs) = cond (b == 45 && length bs == 0) (Some []) (hex-bytes (b ∷ bs))
+bytes_of (b ∷ bs) = cond (b == 45 && length bs == 0) (Some []) (hex_bytes (b ∷ bs))

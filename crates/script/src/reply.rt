@@ -1,5 +1,5 @@
 ghost use Rattle.std.specs.Prelude.{◌≡◌, IfOk, string_bytes};
-ghost use Rattle.script.specs.Lines.{refused-line, call_line, sent-line, text-line, taken-line, record-line, with-buffer, reply-line};
+ghost use Rattle.script.specs.Lines.{refused_line, call_line, sent_line, text_line, taken_line, record_line, with_buffer, reply_line};
 
 use crate::hex::push_hex;
 use carrier::answer::Answer;
@@ -29,7 +29,7 @@ pub enum Reply {
 }
 
 fn refused_line(heap: Global, refusal: Refusal) -> Result<String, AllocError>
-    ensures { IfOk result (λ s. string_bytes s ≡ refused-line refusal) }
+    ensures { IfOk result (λ s. string_bytes s ≡ refused_line refusal) }
 {
     let number = refusal.number();
     format!(in heap; "refused {number}")
@@ -45,7 +45,7 @@ fn call_line(heap: Global, call: Result<(), Refusal>) -> Result<String, AllocErr
 }
 
 fn sent_line(heap: Global, call: Result<usize, Refusal>) -> Result<String, AllocError>
-    ensures { IfOk result (λ s. string_bytes s ≡ sent-line call) }
+    ensures { IfOk result (λ s. string_bytes s ≡ sent_line call) }
 {
     match call {
         Ok(count) => format!(in heap; "sent {count}"),
@@ -54,7 +54,7 @@ fn sent_line(heap: Global, call: Result<usize, Refusal>) -> Result<String, Alloc
 }
 
 fn text_line(heap: Global, call: Result<usize, Refusal>) -> Result<String, AllocError>
-    ensures { IfOk result (λ s. string_bytes s ≡ text-line call) }
+    ensures { IfOk result (λ s. string_bytes s ≡ text_line call) }
 {
     match call {
         Ok(len) => format!(in heap; "text {len}"),
@@ -63,7 +63,7 @@ fn text_line(heap: Global, call: Result<usize, Refusal>) -> Result<String, Alloc
 }
 
 fn taken_line(heap: Global, call: Result<Answer, Refusal>) -> Result<String, AllocError>
-    ensures { IfOk result (λ s. string_bytes s ≡ taken-line call) }
+    ensures { IfOk result (λ s. string_bytes s ≡ taken_line call) }
 {
     match call {
         Ok(answer) => {
@@ -75,7 +75,7 @@ fn taken_line(heap: Global, call: Result<Answer, Refusal>) -> Result<String, All
 }
 
 fn record_line(heap: Global, record: Record) -> Result<String, AllocError>
-    ensures { IfOk result (λ s. string_bytes s ≡ record-line «record») }
+    ensures { IfOk result (λ s. string_bytes s ≡ record_line «record») }
 {
     match record {
         Record::Reading(tenths) => format!(in heap; "reading {tenths}"),
@@ -85,7 +85,7 @@ fn record_line(heap: Global, record: Record) -> Result<String, AllocError>
 
 // The buffer behind the words.
 fn with_buffer(words: String, space: &[u8]) -> Result<String, AllocError>
-    ensures { IfOk result (λ s. string_bytes s ≡ with-buffer (string_bytes words) space.now) }
+    ensures { IfOk result (λ s. string_bytes s ≡ with_buffer (string_bytes words) space.now) }
 {
     let mut line = words;
     line.push(' ')?;
@@ -96,7 +96,7 @@ fn with_buffer(words: String, space: &[u8]) -> Result<String, AllocError>
 impl Reply {
     // The reply as a line of text, without its end.
     pub fn line(&self, heap: Global) -> Result<String, AllocError>
-        ensures { IfOk result (λ s. string_bytes s ≡ reply-line self.now) }
+        ensures { IfOk result (λ s. string_bytes s ≡ reply_line self.now) }
     {
         match self {
             Reply::Call(call) => call_line(heap, *call),

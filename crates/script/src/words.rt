@@ -1,7 +1,7 @@
 ghost use Rattle.std.specs.Prelude.{◌≡◌, ◌+◌, ◌*◌, ◌<◌, ◌≤◌};
 ghost use Rattle.std.specs.Option.{ok_or};
 ghost use Rattle.script.specs.declared.fault.Fault.TheVariants.{Wrong};
-ghost use Rattle.script.specs.Digits.{digit-of, and_then, digit-in, fitting, number_in, number_of, number-to, flag-of, byte_of, hex-bytes, bytes_of};
+ghost use Rattle.script.specs.Digits.{digit_of, and_then, digit_in, fitting, number_in, number_of, number_to, flag_of, byte_of, hex_bytes, bytes_of};
 ghost use Rattle.script.specs.Bytes.{Reads};
 
 use crate::fault::Fault;
@@ -9,7 +9,7 @@ use std::alloc::Global;
 
 // The value of a hexadecimal digit, of either case.
 fn digit(b: u8) -> Option<u8>
-    ensures { result ≡ digit-of b }
+    ensures { result ≡ digit_of b }
 {
     match b {
         b'0'..=b'9' => Some(b - b'0'),
@@ -21,7 +21,7 @@ fn digit(b: u8) -> Option<u8>
 
 // A number with one more digit behind it, if it still has 32 bits.
 fn with_digit(base: u32, n: u32, b: u8) -> Option<u32>
-    ensures { result ≡ and_then (digit-in base b) (λ d. fitting (n * base + d)) }
+    ensures { result ≡ and_then (digit_in base b) (λ d. fitting (n * base + d)) }
 {
     let digit = u32::from(digit(b)?);
     if digit >= base {
@@ -63,7 +63,7 @@ pub fn number(word: &str) -> Result<u32, Fault>
 
 // A number of at most this size.
 pub fn number_to(most: u32, word: &str) -> Result<u32, Fault>
-    ensures { result ≡ ok_or (number-to most word.now) Wrong }
+    ensures { result ≡ ok_or (number_to most word.now) Wrong }
 {
     let n = number(word)?;
     if n > most {
@@ -73,20 +73,20 @@ pub fn number_to(most: u32, word: &str) -> Result<u32, Fault>
 }
 
 pub fn byte(word: &str) -> Result<u8, Fault>
-    ensures { result ≡ ok_or (number-to 255 word.now) Wrong }
+    ensures { result ≡ ok_or (number_to 255 word.now) Wrong }
 {
     Ok(number_to(255, word)? as u8)
 }
 
 pub fn half_word(word: &str) -> Result<u16, Fault>
-    ensures { result ≡ ok_or (number-to 65535 word.now) Wrong }
+    ensures { result ≡ ok_or (number_to 65535 word.now) Wrong }
 {
     Ok(number_to(65535, word)? as u16)
 }
 
 // 0 or 1.
 pub fn flag(word: &str) -> Result<bool, Fault>
-    ensures { result ≡ ok_or (flag-of word.now) Wrong }
+    ensures { result ≡ ok_or (flag_of word.now) Wrong }
 {
     match number_to(1, word) {
         Ok(n) => Ok(n == 1),
@@ -103,7 +103,7 @@ fn byte_of(high: u8, low: u8) -> Option<u8>
 
 // The bytes that digits write, two to a byte.
 fn pairs(heap: Global, digits: &[u8]) -> Result<Vec<u8>, Fault>
-    ensures { Reads (hex-bytes digits.now) result }
+    ensures { Reads (hex_bytes digits.now) result }
 {
     let mut bytes = Vec::new(heap);
     for i in 0..digits.len() / 2 {

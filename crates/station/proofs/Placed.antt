@@ -10,7 +10,7 @@ use Rattle.label.specs.Drafts.{matches, left}
 use Rattle.label.specs.Label.{label_of, Outline}
 use Rattle.carrier.specs.Hearing.{Lawful, Sendable}
 use Rattle.carrier.specs.Meaning.{Meaning}
-use Rattle.carrier.specs.Writing.{place, write-refusal}
+use Rattle.carrier.specs.Writing.{place, write_refusal}
 use Rattle.agreement.specs.Calls.{Ready}
 use Rattle.agreement.proofs.Shows.{sendable}
 use Rattle.station.specs.Sending.{places}
@@ -22,8 +22,8 @@ no_more (x ∷ xs) e = absurd (omega arith)
 emptied : (xs : List ℕ) → length xs ≡ 21 → drop 21 xs ≡ []
 emptied xs e = no_more (drop 21 xs) (length-drop 21 xs ∙ omega arith)
 
-place-length : (f : List ℕ) → length f ≤ 20 → length (place f) ≡ 21
-place-length f h = simp (length-append, length-replicate) (omega arith)
+place_length : (f : List ℕ) → length f ≤ 20 → length (place f) ≡ 21
+place_length f h = simp (length-append, length-replicate) (omega arith)
 
 module _ {S : Type 0} (m : Meaning S) (law : Lawful m) (x : Ready) (item : ItemBits) (text : List ℕ) (t : Bool) (v : ℕ) (fit : m.writing.fits x.outline ≡ true) (same : matches x.outline text ≡ true) where
   abbrev count : ℕ
@@ -35,34 +35,34 @@ module _ {S : Type 0} (m : Meaning S) (law : Lawful m) (x : Ready) (item : ItemB
   as_long : length text ≡ x.outline.len
   as_long = eqb-true (length text) x.outline.len (and_parts (eqb (length text) x.outline.len) _ same).0
 
-  short-frame : (i : ℕ) → i < count → length (frame i) ≤ 20
-  short-frame i h = (law.sized (label_of x.outline item text) t v i (subst (λ n. i < m.writing.count (record { len = n; tags = x.outline.tags })) (sym as_long) h) (sendable m x item text fit same)).1
+  short_frame : (i : ℕ) → i < count → length (frame i) ≤ 20
+  short_frame i h = (law.sized (label_of x.outline item text) t v i (subst (λ n. i < m.writing.count (record { len = n; tags = x.outline.tags })) (sym as_long) h) (sendable m x item text fit same)).1
 
-  places-length : (i : ℕ) → i ≤ count → length (places frame i) ≡ 21 * i
+  places_length : (i : ℕ) → i ≤ count → length (places frame i) ≡ 21 * i
   unfolding places
-  places-length zero h = refl
-  places-length (suc i) h =
-      let p = places-length i (omega arith) in
-      let q = place-length (frame i) (short-frame i (omega arith)) in
+  places_length zero h = refl
+  places_length (suc i) h =
+      let p = places_length i (omega arith) in
+      let q = place_length (frame i) (short_frame i (omega arith)) in
       length-append (places frame i) (place (frame i)) ∙ omega arith
 
-  allowed : (i n : ℕ) → i < count → n ≡ 21 → write-refusal m.writing x.outline text i n ≡ None
+  allowed : (i n : ℕ) → i < count → n ≡ 21 → write_refusal m.writing x.outline text i n ≡ None
   allowed i n h e =
       cond-false (not (m.writing.fits x.outline)) (Some LabelDoesNotFit) _ (ap not fit)
       ∙ cond-false (not (matches x.outline text)) (Some OtherText) _ (ap not same)
       ∙ cond-false (ltb n 21) (Some SmallBuffer) _ (le-ltb n 21 (omega arith))
       ∙ cond-false (leb count i) (Some NoSuchFrame) None (lt-leb count i h)
 
-  pub places-next : (i : ℕ) (old buf part : List ℕ) → i < count → 21 * count ≤ length old
+  pub places_next : (i : ℕ) (old buf part : List ℕ) → i < count → 21 * count ≤ length old
       → buf ≡ places frame i ++ drop (21 * i) old
-      → part ≡ left (write-refusal m.writing x.outline text i (length (take ((21 * i + 21) - 21 * i) (drop (21 * i) buf)))) (place (frame i) ++ drop 21 (take ((21 * i + 21) - 21 * i) (drop (21 * i) buf))) (take ((21 * i + 21) - 21 * i) (drop (21 * i) buf))
+      → part ≡ left (write_refusal m.writing x.outline text i (length (take ((21 * i + 21) - 21 * i) (drop (21 * i) buf)))) (place (frame i) ++ drop 21 (take ((21 * i + 21) - 21 * i) (drop (21 * i) buf))) (take ((21 * i + 21) - 21 * i) (drop (21 * i) buf))
       → put_mid (21 * i) ((21 * i + 21) - 21 * i) buf part ≡ places frame (i + 1) ++ drop (21 * (i + 1)) old
   unfolding places
-  places-next i old buf part h room inv wrote =
+  places_next i old buf part h room inv wrote =
       let P = places frame i in
       let F = place (frame i) in
       let k : (21 * i + 21) - 21 * i ≡ 21 = omega arith in
-      let long : length P ≡ 21 * i = places-length i (omega arith) in
+      let long : length P ≡ 21 * i = places_length i (omega arith) in
       let front : take (21 * i) buf ≡ P = ap (take (21 * i)) inv ∙ take_at P (drop (21 * i) old) (21 * i) long in
       let back : drop (21 * i) buf ≡ drop (21 * i) old = ap (drop (21 * i)) inv ∙ drop_at P (drop (21 * i) old) (21 * i) long in
       let cut : length (take ((21 * i + 21) - 21 * i) (drop (21 * i) buf)) ≡ 21 =

@@ -1,5 +1,5 @@
 ghost use Rattle.std.specs.Prelude.{◌≡◌, ◌*◌, ◌≤◌, true, ◌++◌, length, drop};
-ghost use Rattle.label.specs.Drafts.{sealed-outline, matches};
+ghost use Rattle.label.specs.Drafts.{sealed_outline, matches};
 ghost use Rattle.label.specs.Label.{label_of};
 ghost use Rattle.station.specs.Sending.{places};
 
@@ -17,11 +17,11 @@ pub(crate) fn write_all<C: Carrier>(
     n: usize,
     buf: &mut [u8],
 )
-    requires fit { meaning.writing.fits (sealed-outline label.now) ≡ true }
-    requires same { matches (sealed-outline label.now) text.now ≡ true }
-    requires all { n ≡ meaning.writing.count (sealed-outline label.now) }
+    requires fit { meaning.writing.fits (sealed_outline label.now) ≡ true }
+    requires same { matches (sealed_outline label.now) text.now ≡ true }
+    requires all { n ≡ meaning.writing.count (sealed_outline label.now) }
     requires room { 21 * n ≤ length buf.old }
-    ensures { buf.new ≡ places (meaning.writing.frame (label_of (sealed-outline label.now) item text.now) toggle service) n ++ drop (21 * n) buf.old }
+    ensures { buf.new ≡ places (meaning.writing.frame (label_of (sealed_outline label.now) item text.now) toggle service) n ++ drop (21 * n) buf.old }
 {
     for i in 0..n {
         let at = 21 * i;

@@ -1,9 +1,9 @@
 ghost use Rattle.std.specs.Prelude.{◌≡◌, ◌*◌, ◌++◌, length, drop};
-ghost use Rattle.label.specs.Drafts.{sealed-outline, done, left};
+ghost use Rattle.label.specs.Drafts.{sealed_outline, done, left};
 ghost use Rattle.label.specs.Label.{label_of};
-ghost use Rattle.label.specs.Refusals.{Own, item-start, item-end, sending};
+ghost use Rattle.label.specs.Refusals.{Own, item_start, item_end, sending};
 ghost use Rattle.agreement.specs.Calls.{Call, made, ready};
-ghost use Rattle.agreement.specs.Station.{new-vars, call-refusal, call_step, send-refusal};
+ghost use Rattle.agreement.specs.Station.{new_vars, call_refusal, call_step, send_refusal};
 ghost use Rattle.station.specs.Sending.{places};
 ghost use Rattle.station.specs.Vars.{vars};
 
@@ -27,7 +27,7 @@ pub struct Station<C> {
 
 impl<C: Carrier> Station<C> {
     pub fn new(service: u16) -> Self
-        ensures vars { vars result ≡ new-vars }
+        ensures vars { vars result ≡ new_vars }
         ensures service { result.service ≡ service }
     {
         let item = ItemBits {
@@ -45,8 +45,8 @@ impl<C: Carrier> Station<C> {
 
     // Starts an item.
     pub fn start_item(&mut self) -> Result<(), Refusal>
-        ensures reply { result ≡ done (call-refusal meaning (vars self.old) Call.start 0) tt }
-        ensures own { Own item-start result }
+        ensures reply { result ≡ done (call_refusal meaning (vars self.old) Call.start 0) tt }
+        ensures own { Own item_start result }
         ensures vars { vars self.new ≡ call_step meaning (vars self.old) (made Call.start 0) }
         ensures service { self.new.service ≡ self.old.service }
     {
@@ -63,8 +63,8 @@ impl<C: Carrier> Station<C> {
 
     // Ends the item that runs.
     pub fn end_item(&mut self) -> Result<(), Refusal>
-        ensures reply { result ≡ done (call-refusal meaning (vars self.old) Call.end 0) tt }
-        ensures own { Own item-end result }
+        ensures reply { result ≡ done (call_refusal meaning (vars self.old) Call.end 0) tt }
+        ensures own { Own item_end result }
         ensures vars { vars self.new ≡ call_step meaning (vars self.old) (made Call.end 0) }
         ensures service { self.new.service ≡ self.old.service }
     {
@@ -80,10 +80,10 @@ impl<C: Carrier> Station<C> {
 
     // Sends a label: all its places, one after another, at the buffer's start; returns their number.
     pub fn send(&mut self, label: &Sealed, text: &[u8], buf: &mut [u8]) -> Result<usize, Refusal>
-        ensures reply { result ≡ done (send-refusal meaning.writing (sealed-outline label.now) text.now (length buf.old)) (meaning.writing.count (sealed-outline label.now)) }
+        ensures reply { result ≡ done (send_refusal meaning.writing (sealed_outline label.now) text.now (length buf.old)) (meaning.writing.count (sealed_outline label.now)) }
         ensures own { Own sending result }
         ensures vars { vars self.new ≡ call_step meaning (vars self.old) (made (Call.send (ready label.now) text.now) (length buf.old)) }
-        ensures buffer { buf.new ≡ left (send-refusal meaning.writing (sealed-outline label.now) text.now (length buf.old)) (places (meaning.writing.frame (label_of (sealed-outline label.now) self.old.item text.now) self.old.toggle self.old.service) (meaning.writing.count (sealed-outline label.now)) ++ drop (21 * meaning.writing.count (sealed-outline label.now)) buf.old) buf.old }
+        ensures buffer { buf.new ≡ left (send_refusal meaning.writing (sealed_outline label.now) text.now (length buf.old)) (places (meaning.writing.frame (label_of (sealed_outline label.now) self.old.item text.now) self.old.toggle self.old.service) (meaning.writing.count (sealed_outline label.now)) ++ drop (21 * meaning.writing.count (sealed_outline label.now)) buf.old) buf.old }
         ensures service { self.new.service ≡ self.old.service }
     {
         if !C::fits(label) {

@@ -4,7 +4,7 @@ use mathlib.Core.Bool.{beq}
 use Rattle.std.proofs.lemmas.List.{take-append-drop, drop-drop, take_all, append-nil}
 use Rattle.std.proofs.lemmas.Bool.{eq-eqb, and_from}
 use Rattle.taking.specs.Bytes.{same_bytes}
-use Rattle.taking.specs.Segments.{Segments, all-bytes}
+use Rattle.taking.specs.Segments.{Segments, all_bytes}
 
 pub bytes_same : (xs : List ℕ) → same_bytes xs xs ≡ true
 bytes_same [] = refl
@@ -16,11 +16,11 @@ beq_same false = refl
 
 module _ {D : Type 0} (g : Segments D) (x : List ℕ) (m w : ℕ) (d : ℕ → D) (at : ℕ → ℕ) (next : (i : ℕ) → at (suc i) ≡ at i + w)
     (cut : (i : ℕ) → i < suc m → g.bytes (d i) ≡ take w (drop (at i) x)) (room : length x ≤ at m + w) where
-  pub cut-joins : (k i : ℕ) → i + k ≡ m → all-bytes g d (suc k) i ≡ drop (at i) x
-  cut-joins zero i e =
+  pub cut_joins : (k i : ℕ) → i + k ≡ m → all_bytes g d (suc k) i ≡ drop (at i) x
+  cut_joins zero i e =
       let z : i ≡ m = omega arith in
       append-nil (g.bytes (d i)) ∙ cut i (omega arith) ∙ take_all w (drop (at i) x) (subst (λ n. length (drop (at n) x) ≤ w) (sym z) (simp length-drop (omega arith)))
-  cut-joins (suc k) i e =
-      ap (λ ys. g.bytes (d i) ++ ys) (cut-joins k (suc i) (omega arith) ∙ ap (λ n. drop n x) (next i) ∙ sym (drop-drop w (at i) x))
+  cut_joins (suc k) i e =
+      ap (λ ys. g.bytes (d i) ++ ys) (cut_joins k (suc i) (omega arith) ∙ ap (λ n. drop n x) (next i) ∙ sym (drop-drop w (at i) x))
       ∙ ap (λ ys. ys ++ drop w (drop (at i) x)) (cut i (omega arith))
       ∙ take-append-drop w (drop (at i) x)

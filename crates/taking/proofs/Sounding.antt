@@ -6,22 +6,22 @@ use Rattle.label.specs.Classes.{silent}
 use Rattle.label.specs.Tags.{sounding}
 use Rattle.label.specs.declared.tag.Tag.{Tag}
 
-live-first : (b : Bool) (t : Tag) (xs ys : List Tag) → cond b (xs ++ ys) (t ∷ (xs ++ ys)) ≡ cond b xs (t ∷ xs) ++ ys
-live-first true t xs ys = refl
-live-first false t xs ys = refl
+live_first : (b : Bool) (t : Tag) (xs ys : List Tag) → cond b (xs ++ ys) (t ∷ (xs ++ ys)) ≡ cond b xs (t ∷ xs) ++ ys
+live_first true t xs ys = refl
+live_first false t xs ys = refl
 
-live-push : (ts : List Tag) (u : Tag) → sounding (ts ++ (u ∷ [])) ≡ sounding ts ++ sounding (u ∷ [])
-live-push [] u = refl
-live-push (t ∷ ts) u = ap (λ ys. cond (silent t.class) ys (t ∷ ys)) (live-push ts u) ∙ live-first (silent t.class) t (sounding ts) (sounding (u ∷ []))
+live_push : (ts : List Tag) (u : Tag) → sounding (ts ++ (u ∷ [])) ≡ sounding ts ++ sounding (u ∷ [])
+live_push [] u = refl
+live_push (t ∷ ts) u = ap (λ ys. cond (silent t.class) ys (t ∷ ys)) (live_push ts u) ∙ live_first (silent t.class) t (sounding ts) (sounding (u ∷ []))
 
 module _ (xs ys : List Tag) (i n : ℕ) (d : Tag) (e : take n ys ≡ sounding (take i xs)) (c : i < length xs) where
   live_more : sounding (take (i + 1) xs) ≡ sounding (take i xs) ++ sounding (get_or xs i d ∷ [])
-  live_more = ap sounding (take_more xs i d c) ∙ live-push (take i xs) (get_or xs i d)
+  live_more = ap sounding (take_more xs i d c) ∙ live_push (take i xs) (get_or xs i d)
 
-  pub sounds-here : n < length ys → silent (get_or xs i d).class ≡ false → take (n + 1) (set ys n (get_or xs i d)) ≡ sounding (take (i + 1) xs)
-  sounds-here h f =
+  pub sounds_here : n < length ys → silent (get_or xs i d).class ≡ false → take (n + 1) (set ys n (get_or xs i d)) ≡ sounding (take (i + 1) xs)
+  sounds_here h f =
       take_more_set ys n (get_or xs i d) h ∙ ap (λ zs. zs ++ (get_or xs i d ∷ [])) e
       ∙ sym (live_more ∙ ap (λ zs. sounding (take i xs) ++ zs) (cond-false (silent (get_or xs i d).class) [] (get_or xs i d ∷ []) f))
 
-  pub is-left-out : silent (get_or xs i d).class ≡ true → take n ys ≡ sounding (take (i + 1) xs)
-  is-left-out f = e ∙ sym (live_more ∙ ap (λ zs. sounding (take i xs) ++ zs) (cond-true (silent (get_or xs i d).class) [] (get_or xs i d ∷ []) f) ∙ append-nil (sounding (take i xs)))
+  pub is_left_out : silent (get_or xs i d).class ≡ true → take n ys ≡ sounding (take (i + 1) xs)
+  is_left_out f = e ∙ sym (live_more ∙ ap (λ zs. sounding (take i xs) ++ zs) (cond-true (silent (get_or xs i d).class) [] (get_or xs i d ∷ []) f) ∙ append-nil (sounding (take i xs)))

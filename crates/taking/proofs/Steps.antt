@@ -10,33 +10,33 @@ use Rattle.label.specs.declared.refusal.Refusal.TheVariants.{TagsUnlawful, TagsU
 use Rattle.label.specs.declared.refusal.Refusal.{Refusal}
 use Rattle.label.specs.declared.tag.Tag.{Tag}
 use Rattle.taking.specs.Pieces.{Pieces}
-use Rattle.taking.specs.Taking.{Tags, Taken, agrees, begun, by-look, forgotten, label-from, met, no-longer-waiting, on-tags, on-text, settled, stands, tags-met, tags-told, telling, waiting-for}
+use Rattle.taking.specs.Taking.{Tags, Taken, agrees, begun, by_look, forgotten, label_from, met, no_longer_waiting, on_tags, on_text, settled, stands, tags_met, tags_told, telling, waiting_for}
 use Rattle.taking.specs.declared.look.Look.{Look}
 
 module _ {P K : Type 0} (q : Pieces P K) (s : Taken P) (t : Bool) (k : K) where
-  pub text-begins : (u : Taken P) → stands s.standing t ≡ false → u ≡ begun q t k → on-text q s t k ≡ answered Kept u
-  unfolding on-text
-  text-begins u e h = cond-false (stands s.standing t) _ (answered Kept (begun q t k)) e ∙ ap (answered Kept) (sym h)
+  pub text_begins : (u : Taken P) → stands s.standing t ≡ false → u ≡ begun q t k → on_text q s t k ≡ answered Kept u
+  unfolding on_text
+  text_begins u e h = cond-false (stands s.standing t) _ (answered Kept (begun q t k)) e ∙ ap (answered Kept) (sym h)
 
-  pub text-looks : (l : Look) (o : Outcome (Taken P)) → stands s.standing t ≡ true → q.look s.held k ≡ l → by-look q s t k l ≡ o → on-text q s t k ≡ o
-  unfolding on-text
-  text-looks l o e h r = cond-true (stands s.standing t) (by-look q s t k (q.look s.held k)) _ e ∙ ap (by-look q s t k) h ∙ r
+  pub text_looks : (l : Look) (o : Outcome (Taken P)) → stands s.standing t ≡ true → q.look s.held k ≡ l → by_look q s t k l ≡ o → on_text q s t k ≡ o
+  unfolding on_text
+  text_looks l o e h r = cond-true (stands s.standing t) (by_look q s t k (q.look s.held k)) _ e ∙ ap (by_look q s t k) h ∙ r
 
 -- the tags are lawful, by what the code tested
-pub lawful-here : (b : Bool) (n : ℕ) (x : List ℕ) (ts : List Tag) → b ≡ lawful n ts → length x ≡ n → lawful (length x) ts ≡ b
-lawful-here b n x ts e h = ap (λ k. lawful k ts) h ∙ sym e
+pub lawful_here : (b : Bool) (n : ℕ) (x : List ℕ) (ts : List Tag) → b ≡ lawful n ts → length x ≡ n → lawful (length x) ts ≡ b
+lawful_here b n x ts e h = ap (λ k. lawful k ts) h ∙ sym e
 
 module _ {P : Type 0} (s : Taken P) where
-  pub told_is : (x : List ℕ) (w : Tags) (l : Label) → l ≡ label-from x w → record { standing = s.standing; held = s.held; waiting = None; told = Some l } ≡ telling s x w
+  pub told_is : (x : List ℕ) (w : Tags) (l : Label) → l ≡ label_from x w → record { standing = s.standing; held = s.held; waiting = None; told = Some l } ≡ telling s x w
   told_is x w l e = λ i. record { standing = s.standing; held = s.held; waiting = None; told = Some (e i) }
 
-  pub settle-dropped : (o : Option (List ℕ)) (m : Option Tags) (x : List ℕ) (w : Tags) (u : Taken P) → o ≡ Some x → m ≡ Some w → lawful (length x) w.tags ≡ false → u ≡ no-longer-waiting s → settled s o m ≡ answered Dropped u
-  settle-dropped o m x w u e f h r =
-      ap (λ y. settled s y m) e ∙ ap (settled s (Some x)) f ∙ cond-false (lawful (length x) w.tags) (answered Complete (telling s x w)) (answered Dropped (no-longer-waiting s)) h ∙ ap (answered Dropped) (sym r)
+  pub settle_dropped : (o : Option (List ℕ)) (m : Option Tags) (x : List ℕ) (w : Tags) (u : Taken P) → o ≡ Some x → m ≡ Some w → lawful (length x) w.tags ≡ false → u ≡ no_longer_waiting s → settled s o m ≡ answered Dropped u
+  settle_dropped o m x w u e f h r =
+      ap (λ y. settled s y m) e ∙ ap (settled s (Some x)) f ∙ cond-false (lawful (length x) w.tags) (answered Complete (telling s x w)) (answered Dropped (no_longer_waiting s)) h ∙ ap (answered Dropped) (sym r)
 
-  pub settle-told : (o : Option (List ℕ)) (m : Option Tags) (x : List ℕ) (w : Tags) (u : Taken P) → o ≡ Some x → m ≡ Some w → lawful (length x) w.tags ≡ true → u ≡ telling s x w → settled s o m ≡ answered Complete u
-  settle-told o m x w u e f h r =
-      ap (λ y. settled s y m) e ∙ ap (settled s (Some x)) f ∙ cond-true (lawful (length x) w.tags) (answered Complete (telling s x w)) (answered Dropped (no-longer-waiting s)) h ∙ ap (answered Complete) (sym r)
+  pub settle_told : (o : Option (List ℕ)) (m : Option Tags) (x : List ℕ) (w : Tags) (u : Taken P) → o ≡ Some x → m ≡ Some w → lawful (length x) w.tags ≡ true → u ≡ telling s x w → settled s o m ≡ answered Complete u
+  settle_told o m x w u e f h r =
+      ap (λ y. settled s y m) e ∙ ap (settled s (Some x)) f ∙ cond-true (lawful (length x) w.tags) (answered Complete (telling s x w)) (answered Dropped (no_longer_waiting s)) h ∙ ap (answered Complete) (sym r)
 
 -- what a call owes, from the outcome at hand
 pub took : {S : Type 0} (s t u : S) {o : Outcome S} {a : Answer} → o ≡ answered a t → u ≡ t → record { reply : Ok a ≡ reply o; next : u ≡ next s o }
@@ -47,29 +47,29 @@ turned_down s e = record { reply = sym (ap reply e); next = sym (ap (next s) e) 
 
 -- tags, with the text complete
 module _ {P : Type 0} (s : Taken P) (x : List ℕ) (w : Tags) (o : Option (List ℕ)) (e : o ≡ Some x) where
-  pub met-unlawful : lawful (length x) w.tags ≡ false → tags-met s s w o ≡ refused TagsUnlawful
-  met-unlawful h = ap (tags-met s s w) e ∙ cond-false (lawful (length x) w.tags) (tags-told s s x w s.told) (refused TagsUnlawful) h
+  pub met_unlawful : lawful (length x) w.tags ≡ false → tags_met s s w o ≡ refused TagsUnlawful
+  met_unlawful h = ap (tags_met s s w) e ∙ cond-false (lawful (length x) w.tags) (tags_told s s x w s.told) (refused TagsUnlawful) h
 
-  met-lawful : lawful (length x) w.tags ≡ true → tags-met s s w o ≡ tags-told s s x w s.told
-  met-lawful h = ap (tags-met s s w) e ∙ cond-true (lawful (length x) w.tags) (tags-told s s x w s.told) (refused TagsUnlawful) h
+  met_lawful : lawful (length x) w.tags ≡ true → tags_met s s w o ≡ tags_told s s x w s.told
+  met_lawful h = ap (tags_met s s w) e ∙ cond-true (lawful (length x) w.tags) (tags_told s s x w s.told) (refused TagsUnlawful) h
 
-  pub met-first : lawful (length x) w.tags ≡ true → s.told ≡ None → tags-met s s w o ≡ answered Complete (telling s x w)
-  met-first h f = met-lawful h ∙ ap (tags-told s s x w) f
+  pub met_first : lawful (length x) w.tags ≡ true → s.told ≡ None → tags_met s s w o ≡ answered Complete (telling s x w)
+  met_first h f = met_lawful h ∙ ap (tags_told s s x w) f
 
-  pub met-again : (l : Label) → lawful (length x) w.tags ≡ true → s.told ≡ Some l → agrees l w ≡ true → tags-met s s w o ≡ answered Again s
-  met-again l h f r = met-lawful h ∙ ap (tags-told s s x w) f ∙ cond-true (agrees l w) (answered Again s) (refused TagsUnlike) r
+  pub met_again : (l : Label) → lawful (length x) w.tags ≡ true → s.told ≡ Some l → agrees l w ≡ true → tags_met s s w o ≡ answered Again s
+  met_again l h f r = met_lawful h ∙ ap (tags_told s s x w) f ∙ cond-true (agrees l w) (answered Again s) (refused TagsUnlike) r
 
-  pub met-unlike : (l : Label) → lawful (length x) w.tags ≡ true → s.told ≡ Some l → agrees l w ≡ false → tags-met s s w o ≡ refused TagsUnlike
-  met-unlike l h f r = met-lawful h ∙ ap (tags-told s s x w) f ∙ cond-false (agrees l w) (answered Again s) (refused TagsUnlike) r
+  pub met_unlike : (l : Label) → lawful (length x) w.tags ≡ true → s.told ≡ Some l → agrees l w ≡ false → tags_met s s w o ≡ refused TagsUnlike
+  met_unlike l h f r = met_lawful h ∙ ap (tags_told s s x w) f ∙ cond-false (agrees l w) (answered Again s) (refused TagsUnlike) r
 
 module _ {P K : Type 0} (q : Pieces P K) (s : Taken P) (w : Tags) where
-  pub tags-stand : (mt : Option Bool) → met q s mt ≡ s → on-tags q s mt w ≡ tags-met s s w (q.text s.held)
-  unfolding on-tags
-  tags-stand mt e = ap (λ u. tags-met s u w (q.text u.held)) e
+  pub tags_stand : (mt : Option Bool) → met q s mt ≡ s → on_tags q s mt w ≡ tags_met s s w (q.text s.held)
+  unfolding on_tags
+  tags_stand mt e = ap (λ u. tags_met s u w (q.text u.held)) e
 
-  pub tags-turn : (t : Bool) → stands s.standing t ≡ false → q.text q.none ≡ None → on-tags q s (Some t) w ≡ answered Kept (waiting-for (forgotten q t) w)
-  unfolding on-tags
-  tags-turn t e h = ap (λ u. tags-met s u w (q.text u.held)) (cond-false (stands s.standing t) s (forgotten q t) e) ∙ ap (tags-met s (forgotten q t) w) h
+  pub tags_turn : (t : Bool) → stands s.standing t ≡ false → q.text q.none ≡ None → on_tags q s (Some t) w ≡ answered Kept (waiting_for (forgotten q t) w)
+  unfolding on_tags
+  tags_turn t e h = ap (λ u. tags_met s u w (q.text u.held)) (cond-false (stands s.standing t) s (forgotten q t) e) ∙ ap (tags_met s (forgotten q t) w) h
 
 -- the same outcome by another name
 pub passed_on : {S : Type 0} (s u : S) (r : Result Answer Refusal) {o p : Outcome S} → o ≡ p → record { reply : r ≡ reply p; next : u ≡ next s p } → record { reply : r ≡ reply o; next : u ≡ next s o }

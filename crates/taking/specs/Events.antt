@@ -1,12 +1,12 @@
 -- Hearings as the shared taking rules see them, and how a carrier's frames come down to them.
 use Rattle.std.specs.Prelude.{◌≡◌, ℕ, ◌<◌, ◌≤◌, Bool, true, false, ◌⊎◌, List, [], ◌∷◌, ◌++◌, length, Some, None, Option}
-use Rattle.carrier.specs.Hearing.{AtMostOnce, Full, IsLabel, Numbers, Once, completed, completed-at, frames-of}
+use Rattle.carrier.specs.Hearing.{AtMostOnce, Full, IsLabel, Numbers, Once, completed, completed_at, frames_of}
 use Rattle.carrier.specs.Meaning.{Meaning, Outcome, answered, next, refused}
 use Rattle.carrier.specs.declared.answer.Answer.TheVariants.{Kept}
 use Rattle.label.specs.Label.{Label, Same}
 use Rattle.label.specs.Lawful.{lawful}
 use Rattle.taking.specs.Pieces.{Pieces}
-use Rattle.taking.specs.Taking.{Tags, Taken, label-from, on-tags, on-text}
+use Rattle.taking.specs.Taking.{Tags, Taken, label_from, on_tags, on_text}
 
 -- what a frame of a label is to the shared rules: one of its pieces, its tags, or a frame that leaves their state
 pub data Event : Type 0 where
@@ -21,32 +21,32 @@ pub record OnAir (K : Type 0) : Type 0 where
   pub pieces : ℕ → K
   pub tags : Tags
   -- the toggle that the tags have, or none
-  pub tags-toggle : Option Bool
+  pub tags_toggle : Option Bool
 
 -- what is heard is the label l
 pub record Airs {K : Type 0} (l : Label) (a : OnAir K) : Type 0 where
   pub some : 0 < a.count
   pub lawful : lawful (length l.text) a.tags.tags ≡ true
-  pub same : Same (label-from l.text a.tags) l
-  pub own : (a.tags-toggle ≡ None) ⊎ (a.tags-toggle ≡ Some a.toggle)
+  pub same : Same (label_from l.text a.tags) l
+  pub own : (a.tags_toggle ≡ None) ⊎ (a.tags_toggle ≡ Some a.toggle)
 
-abbrev pub on-event : {P K : Type 0} → Pieces P K → OnAir K → Taken P → Event → Outcome (Taken P)
-on-event q a s (piece i) = on-text q s a.toggle (a.pieces i)
-on-event q a s tags = on-tags q s a.tags-toggle a.tags
-on-event q a s aside = answered Kept s
+abbrev pub on_event : {P K : Type 0} → Pieces P K → OnAir K → Taken P → Event → Outcome (Taken P)
+on_event q a s (piece i) = on_text q s a.toggle (a.pieces i)
+on_event q a s tags = on_tags q s a.tags_toggle a.tags
+on_event q a s aside = answered Kept s
 
-abbrev pub completed-here : {P : Type 0} → Outcome (Taken P) → List (Option Label)
-completed-here (answered x t) = completed-at x t.told
-completed-here (refused e) = []
+abbrev pub completed_here : {P : Type 0} → Outcome (Taken P) → List (Option Label)
+completed_here (answered x t) = completed_at x t.told
+completed_here (refused e) = []
 
 -- runs over events
 abbrev pub run : {P K : Type 0} → Pieces P K → OnAir K → Taken P → List Event → Taken P
 run q a s [] = s
-run q a s (e ∷ es) = run q a (next s (on-event q a s e)) es
+run q a s (e ∷ es) = run q a (next s (on_event q a s e)) es
 
-abbrev pub run-completions : {P K : Type 0} → Pieces P K → OnAir K → Taken P → List Event → List (Option Label)
-run-completions q a s [] = []
-run-completions q a s (e ∷ es) = completed-here (on-event q a s e) ++ run-completions q a (next s (on-event q a s e)) es
+abbrev pub run_completions : {P K : Type 0} → Pieces P K → OnAir K → Taken P → List Event → List (Option Label)
+run_completions q a s [] = []
+run_completions q a s (e ∷ es) = completed_here (on_event q a s e) ++ run_completions q a (next s (on_event q a s e)) es
 
 abbrev pub Among : Event → List Event → Type 0
 Among x [] = ⊥
@@ -64,8 +64,8 @@ AllWithin n (e ∷ es) = Within n e × AllWithin n es
 
 pub record HearsEvents {P K : Type 0} (q : Pieces P K) (l : Label) (a : OnAir K) (s : Taken P) (es : List Event) : Type 0 where
   pub stands : (run q a s es).standing ≡ Some a.toggle
-  pub once : AtMostOnce l (run-completions q a s es)
-  pub full : ((i : ℕ) → i < a.count → Among (piece i) es) → Among tags es → Once l (run-completions q a s es) × IsLabel l (run q a s es).told
+  pub once : AtMostOnce l (run_completions q a s es)
+  pub full : ((i : ℕ) → i < a.count → Among (piece i) es) → Among tags es → Once l (run_completions q a s es) × IsLabel l (run q a s es).told
 
 -- the events of a row of frame numbers, where the event of a frame may hang on the carrier's state
 abbrev pub events : {S : Type 0} → Meaning S → Label → Bool → ℕ → (S → ℕ → Event) → S → List ℕ → List Event
@@ -77,9 +77,9 @@ pub record Carries {S P K : Type 0} (m : Meaning S) (q : Pieces P K) (core : S �
   pub standing : (s : S) → m.standing s ≡ (core s).standing
   pub told : (s : S) → m.told s ≡ (core s).told
   pub new : m.standing m.fresh ≡ None
-  pub fewer : a.count ≤ frames-of m l
+  pub fewer : a.count ≤ frames_of m l
   pub pieces : (s : S) (i : ℕ) → i < a.count → event s i ≡ piece i
-  pub within : (s : S) (n : ℕ) → n < frames-of m l → Within a.count (event s n)
-  pub moves : (s : S) (n : ℕ) → n < frames-of m l → core (next s (m.step s (m.writing.frame l a.toggle v n))) ≡ next (core s) (on-event q a (core s) (event s n))
-  pub completes : (s : S) (n : ℕ) → n < frames-of m l → completed m (m.step s (m.writing.frame l a.toggle v n)) ≡ completed-here (on-event q a (core s) (event s n))
-  pub tags-come : (s : S) (ns : List ℕ) → Numbers (frames-of m l) ns → Full (frames-of m l) ns → Among tags (events m l a.toggle v event s ns)
+  pub within : (s : S) (n : ℕ) → n < frames_of m l → Within a.count (event s n)
+  pub moves : (s : S) (n : ℕ) → n < frames_of m l → core (next s (m.step s (m.writing.frame l a.toggle v n))) ≡ next (core s) (on_event q a (core s) (event s n))
+  pub completes : (s : S) (n : ℕ) → n < frames_of m l → completed m (m.step s (m.writing.frame l a.toggle v n)) ≡ completed_here (on_event q a (core s) (event s n))
+  pub tags_come : (s : S) (ns : List ℕ) → Numbers (frames_of m l) ns → Full (frames_of m l) ns → Among tags (events m l a.toggle v event s ns)

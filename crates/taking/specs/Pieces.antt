@@ -13,10 +13,10 @@ pub record Pieces (P K : Type 0) : Type 0 where
 -- k 0, k 1 .. k (n - 1) are the pieces of the text x: `Part p` says that p is a part of it, and `Has p i` that p has piece i
 pub record PiecesOf {P K : Type 0} (q : Pieces P K) (x : List ℕ) (n : ℕ) (k : ℕ → K) (Part : P → Type 0) (Has : P → ℕ → Type 0) : Type 0 where
   pub first : Part (q.put q.none (k 0))
-  pub first-has : Has (q.put q.none (k 0)) 0
+  pub first_has : Has (q.put q.none (k 0)) 0
   pub looks : (p : P) (i : ℕ) → Part p → i < n → ((q.look p (k i) ≡ Equal) × Has p i) ⊎ (q.look p (k i) ≡ Fresh)
   pub grows : (p : P) (i : ℕ) → Part p → i < n → Part (q.put p (k i))
   pub has_new : (p : P) (i : ℕ) → Part p → i < n → Has (q.put p (k i)) i
-  pub has-still : (p : P) (i j : ℕ) → Part p → i < n → Has p j → Has (q.put p (k i)) j
+  pub has_still : (p : P) (i j : ℕ) → Part p → i < n → Has p j → Has (q.put p (k i)) j
   pub texts : (p : P) → Part p → (q.text p ≡ None) ⊎ (q.text p ≡ Some x)
   pub whole : (p : P) → Part p → ((i : ℕ) → i < n → Has p i) → q.text p ≡ Some x

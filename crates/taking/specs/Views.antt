@@ -6,23 +6,23 @@ use Rattle.taking.specs.declared.arrived.Arrived.{Arrived}
 use Rattle.taking.specs.declared.arrived.Told.{Told}
 use Rattle.taking.specs.declared.taken.Taking.{Taking}
 
-abbrev pub tags-of : Arrived → Tags
-tags-of a = record { item = a.item; tags = take a.count a.tags }
+abbrev pub tags_of : Arrived → Tags
+tags_of a = record { item = a.item; tags = take a.count a.tags }
 
-abbrev pub told-label : Told → Label
-told-label l = record { text = take l.len l.text; tags = take l.count l.tags; item = l.item }
+abbrev pub told_label : Told → Label
+told_label l = record { text = take l.len l.text; tags = take l.count l.tags; item = l.item }
 
-abbrev pub waiting-of : Option Arrived → Option Tags
-waiting-of None = None
-waiting-of (Some a) = Some (tags-of a)
+abbrev pub waiting_of : Option Arrived → Option Tags
+waiting_of None = None
+waiting_of (Some a) = Some (tags_of a)
 
 abbrev pub told_of : Option Told → Option Label
 told_of None = None
-told_of (Some l) = Some (told-label l)
+told_of (Some l) = Some (told_label l)
 
 -- the state, with the pieces seen by `held`
 abbrev pub view : {C P : Type 0} → (C → P) → Taking C → Taken P
-view held s = record { standing = s.standing; held = held s.pieces; waiting = waiting-of s.waiting; told = told_of s.told }
+view held s = record { standing = s.standing; held = held s.pieces; waiting = waiting_of s.waiting; told = told_of s.told }
 
 -- a text read out into a buffer
 abbrev pub read_out : Option ℕ → List ℕ → Option (List ℕ)

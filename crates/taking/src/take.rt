@@ -1,7 +1,7 @@
 ghost use Rattle.std.specs.Prelude.{◌≡◌, Bool, Some, None};
 ghost use Rattle.carrier.specs.Meaning.{answered, reply, next};
-ghost use Rattle.taking.specs.Taking.{new-taken, stands, begun, settled, held-again, put_in, on-text, on-tags, forgotten, waiting-for, tags-met};
-ghost use Rattle.taking.specs.Views.{view, tags-of};
+ghost use Rattle.taking.specs.Taking.{new_taken, stands, begun, settled, held_again, put_in, on_text, on_tags, forgotten, waiting_for, tags_met};
+ghost use Rattle.taking.specs.Views.{view, tags_of};
 
 use crate::arrived::Arrived;
 use crate::look::Look;
@@ -22,7 +22,7 @@ fn is_standing(standing: Option<bool>, toggle: bool) -> bool
 
 impl<P: Pieces> Taking<P> {
     pub fn new() -> Self
-        ensures { view held result ≡ new-taken pieces }
+        ensures { view held result ≡ new_taken pieces }
     {
         Taking {
             pieces: P::new(),
@@ -52,7 +52,7 @@ impl<P: Pieces> Taking<P> {
 
     // A piece of a text arrives.
     pub fn on_text(&mut self, toggle: bool, piece: &P::Piece) -> Answer
-        ensures { on-text pieces (view held self.old) toggle (meant piece.now) ≡ answered result (view held self.new) }
+        ensures { on_text pieces (view held self.old) toggle (meant piece.now) ≡ answered result (view held self.new) }
     {
         if !is_standing(self.standing, toggle) {
             self.begin(toggle, piece);
@@ -70,7 +70,7 @@ impl<P: Pieces> Taking<P> {
     }
 
     fn held_again(&self) -> Answer
-        ensures { held-again (view held self.now) (view held self.now).told ≡ answered result (view held self.now) }
+        ensures { held_again (view held self.now) (view held self.now).told ≡ answered result (view held self.now) }
     {
         match self.told {
             None => Answer::Kept,
@@ -112,7 +112,7 @@ impl<P: Pieces> Taking<P> {
 
     // Forgets all, and the tags wait.
     fn begin_tags(&mut self, toggle: bool, arrived: &Arrived)
-        ensures { view held self.new ≡ waiting-for (forgotten pieces toggle) (tags-of arrived.now) }
+        ensures { view held self.new ≡ waiting_for (forgotten pieces toggle) (tags_of arrived.now) }
     {
         self.forget(toggle);
         self.waiting = Some(*arrived);
@@ -120,8 +120,8 @@ impl<P: Pieces> Taking<P> {
 
     // Tags arrive, with their message toggle where the carrier's tags have one.
     pub fn on_tags(&mut self, toggle: Option<bool>, arrived: &Arrived) -> Result<Answer, Refusal>
-        ensures reply { result ≡ reply (on-tags pieces (view held self.old) toggle (tags-of arrived.now)) }
-        ensures next { view held self.new ≡ next (view held self.old) (on-tags pieces (view held self.old) toggle (tags-of arrived.now)) }
+        ensures reply { result ≡ reply (on_tags pieces (view held self.old) toggle (tags_of arrived.now)) }
+        ensures next { view held self.new ≡ next (view held self.old) (on_tags pieces (view held self.old) toggle (tags_of arrived.now)) }
     {
         match toggle {
             None => self.tags_here(arrived),
@@ -138,8 +138,8 @@ impl<P: Pieces> Taking<P> {
 
     // Tags under the standing toggle.
     fn tags_here(&mut self, arrived: &Arrived) -> Result<Answer, Refusal>
-        ensures reply { result ≡ reply (tags-met (view held self.old) (view held self.old) (tags-of arrived.now) (pieces.text (view held self.old).held)) }
-        ensures next { view held self.new ≡ next (view held self.old) (tags-met (view held self.old) (view held self.old) (tags-of arrived.now) (pieces.text (view held self.old).held)) }
+        ensures reply { result ≡ reply (tags_met (view held self.old) (view held self.old) (tags_of arrived.now) (pieces.text (view held self.old).held)) }
+        ensures next { view held self.new ≡ next (view held self.old) (tags_met (view held self.old) (view held self.old) (tags_of arrived.now) (pieces.text (view held self.old).held)) }
     {
         let mut text = [0u8; 128];
         let Some(len) = self.pieces.text(&mut text) else {

@@ -1,8 +1,8 @@
 ghost use Rattle.std.specs.Prelude.{◌≡◌, ◌≤◌, true, take};
 ghost use Rattle.label.specs.Lawful.{lawful};
 ghost use Rattle.label.specs.Tags.{sounding, alike};
-ghost use Rattle.taking.specs.Taking.{Tags, label-from, agrees, same_item};
-ghost use Rattle.taking.specs.Views.{tags-of, told-label};
+ghost use Rattle.taking.specs.Taking.{Tags, label_from, agrees, same_item};
+ghost use Rattle.taking.specs.Views.{tags_of, told_label};
 
 use crate::arrived::{Arrived, Told};
 use label::alike::are_alike;
@@ -13,7 +13,7 @@ use label::tag::{ItemBits, Tag};
 impl Arrived {
     // The first of four tags, as many as the count says.
     pub fn new(item: ItemBits, tags: [Tag; 4], count: usize) -> Arrived
-        ensures { tags-of result ≡ record { item = item; tags = take count tags } }
+        ensures { tags_of result ≡ record { item = item; tags = take count tags } }
     {
         if count < 4 {
             return Arrived { item, tags, count };
@@ -27,7 +27,7 @@ impl Arrived {
 
     // The tags are lawful for a text of this many bytes.
     pub(crate) fn are_lawful(&self, len: usize) -> bool
-        ensures { result ≡ lawful len (tags-of self.now).tags }
+        ensures { result ≡ lawful len (tags_of self.now).tags }
     {
         let count = self.count;
         is_lawful(len, &self.tags[0..count])
@@ -36,7 +36,7 @@ impl Arrived {
     // The tags without silent ones.
     fn sounded(&self) -> Arrived
         ensures item { result.item ≡ self.now.item }
-        ensures tags { (tags-of result).tags ≡ sounding (tags-of self.now).tags }
+        ensures tags { (tags_of result).tags ≡ sounding (tags_of self.now).tags }
     {
         let mut tags = [Tag {
             class: 0,
@@ -60,8 +60,8 @@ impl Arrived {
     // The label that they tell over a text.
     pub(crate) fn tell(&self, text: [u8; 128], len: usize) -> Told
         requires short { len ≤ 128 }
-        requires right { lawful len (tags-of self.now).tags ≡ true }
-        ensures { told-label result ≡ label-from (take len text) (tags-of self.now) }
+        requires right { lawful len (tags_of self.now).tags ≡ true }
+        ensures { told_label result ≡ label_from (take len text) (tags_of self.now) }
     {
         let Arrived { item, tags, count } = self.sounded();
         Told {
@@ -83,7 +83,7 @@ fn is_same_item(i: ItemBits, j: ItemBits) -> bool
 impl Told {
     // Tags and item bits are like the label's, silent tags and order aside.
     pub(crate) fn agrees(&self, arrived: &Arrived) -> bool
-        ensures { result ≡ agrees (told-label self.now) (tags-of arrived.now) }
+        ensures { result ≡ agrees (told_label self.now) (tags_of arrived.now) }
     {
         let held = self.count;
         let came = arrived.count;

@@ -1,5 +1,5 @@
 ghost use Rattle.std.specs.Prelude.{◌≡◌, ◌≤◌, length, is_some};
-ghost use Rattle.carrier.specs.Meaning.{told_text, told-tags, told-item, Plain};
+ghost use Rattle.carrier.specs.Meaning.{told_text, told_tags, told_item, Plain};
 ghost use Rattle.taking.specs.Views.{view, told_of};
 
 use crate::arrived::Told;
@@ -19,7 +19,7 @@ fn text_of(told: &Option<Told>) -> &[u8]
 }
 
 fn tags_of(told: &Option<Told>) -> &[Tag]
-    ensures value { result.now ≡ told-tags (told_of told.now) }
+    ensures value { result.now ≡ told_tags (told_of told.now) }
     ensures plain { Plain (told_text (told_of told.now)) result.now }
 {
     match told {
@@ -56,7 +56,7 @@ impl<P: Pieces> Taking<P> {
 
     // The complete label's tags, or none.
     pub fn tags(&self) -> &[Tag]
-        ensures value { result.now ≡ told-tags (view held self.now).told }
+        ensures value { result.now ≡ told_tags (view held self.now).told }
         ensures plain { Plain (told_text (view held self.now).told) result.now }
     {
         tags_of(&self.told)
@@ -64,7 +64,7 @@ impl<P: Pieces> Taking<P> {
 
     // The complete label's item bits, or zeros.
     pub fn item(&self) -> ItemBits
-        ensures { result ≡ told-item (view held self.now).told }
+        ensures { result ≡ told_item (view held self.now).told }
     {
         match self.told {
             None => ItemBits {

@@ -1,7 +1,7 @@
 use Rattle.std.proofs.Common.{ℕ, ◌+◌, ◌<◌, List, get_or, drop, sym, ap, ◌∙◌, arith, rules}
 use Rattle.std.proofs.lemmas.List.{at_drop_more, at_drop_all}
 use Rattle.crc.specs.Check.{number}
-use Rattle.crc.proofs.Division.{from, from_byte, from-none, from-ones}
+use Rattle.crc.proofs.Division.{from, from_byte, from_none, from_ones}
 use Rattle.crc.proofs.divide.Goals as goal
 
 pub loop-byte-preserved : goal.loop-byte-preserved
@@ -20,5 +20,5 @@ pub returns : goal.returns
 returns c =
     let s : List ℕ = c.args.bytes.now in
     let r = c.loop-byte.register in
-    sym (from-none r (omega arith))
-    ∙ ap number (sym (at_drop_all (from r) s c.loop-byte.byte-index c.loop-byte-test.false) ∙ c.loop-byte.invariant.1 ∙ from-ones s)
+    sym (from_none r (omega arith))
+    ∙ ap number (sym (at_drop_all (from r) s c.loop-byte.byte-index c.loop-byte-test.false) ∙ c.loop-byte.invariant.1 ∙ from_ones s)

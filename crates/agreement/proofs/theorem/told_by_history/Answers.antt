@@ -1,5 +1,5 @@
-use Rattle.agreement.proofs.Shows.{told-by-history}
+use Rattle.agreement.proofs.Shows.{told_by_history}
 use Rattle.agreement.proofs.theorem.told_by_history.Goals as goal
 
 pub returns : goal.returns
-returns g c = told-by-history g.C.Carrier.meaning g.met.C.Carrier.lawful
+returns g c = told_by_history g.C.Carrier.meaning g.met.C.Carrier.lawful

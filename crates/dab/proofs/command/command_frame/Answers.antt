@@ -1,7 +1,7 @@
 use Rattle.std.proofs.Common.{ap, ◌∙◌}
 use Rattle.carrier.specs.Writing.{place}
-use Rattle.dab.specs.Frames.{command-body, framed}
+use Rattle.dab.specs.Frames.{command_body, framed}
 use Rattle.dab.proofs.command.command_frame.Goals as goal
 
 pub returns : goal.returns
-returns c = c.command-for.ensures ∙ ap (λ ts. place (framed (command-body c.args.item ts c.args.toggle))) c.sent-tags.ensures
+returns c = c.command-for.ensures ∙ ap (λ ts. place (framed (command_body c.args.item ts c.args.toggle))) c.sent-tags.ensures

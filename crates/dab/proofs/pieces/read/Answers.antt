@@ -1,18 +1,18 @@
 use Rattle.std.proofs.Common.{◌≤◌, length, sym, ap, ◌∙◌, arith}
-use Rattle.dab.proofs.Rows.{read-begins, read-missing, read_more, read-ends, read_none}
+use Rattle.dab.proofs.Rows.{read_begins, read_missing, read_more, read_ends, read_none}
 use Rattle.dab.proofs.pieces.read.Goals as goal
 
 pub loop-i-init : goal.loop-i-init
-loop-i-init c = (omega arith, read-begins c.args.segments.now c.args.out.now)
+loop-i-init c = (omega arith, read_begins c.args.segments.now c.args.out.now)
 
 pub returns-in-default : goal.returns-in-default
-returns-in-default c = record { text = read-missing c.args.segments.now c.loop-i.out c.loop-i.len c.loop-i.i c.loop-i-test.true c.loop-i.invariant.1 (sym c.in-default.ensures); short = tt }
+returns-in-default c = record { text = read_missing c.args.segments.now c.loop-i.out c.loop-i.len c.loop-i.i c.loop-i-test.true c.loop-i.invariant.1 (sym c.in-default.ensures); short = tt }
 
 pub returns-then-segment : goal.returns-then-segment
 returns-then-segment c =
     let room : c.loop-i.len ≤ length c.loop-i.out = omega arith in
     record {
-      text = read-ends c.args.segments.now c.loop-i.out c.loop-i.len c.loop-i.i c.loop-i-test.true c.loop-i.invariant.1 c.in-Some.segment (sym c.in-Some.ensures) _ c.copy-from-slice.new.self (c.copy-from-slice.ensures.after ∙ c.data.ensures.value) (ap length c.copy-from-slice.ensures.after ∙ c.data.ensures.len) room c.if-segment.true;
+      text = read_ends c.args.segments.now c.loop-i.out c.loop-i.len c.loop-i.i c.loop-i-test.true c.loop-i.invariant.1 c.in-Some.segment (sym c.in-Some.ensures) _ c.copy-from-slice.new.self (c.copy-from-slice.ensures.after ∙ c.data.ensures.value) (ap length c.copy-from-slice.ensures.after ∙ c.data.ensures.len) room c.if-segment.true;
       short = omega (arith, c.in-Some.segment.short);
     }
 

@@ -1,9 +1,9 @@
 use Rattle.std.proofs.Common.{◌∙◌, ap₂}
 use Rattle.std.proofs.lemmas.List.{take_rest}
-use Rattle.dab.specs.Taking.{tags-in}
+use Rattle.dab.specs.Taking.{tags_in}
 use Rattle.dab.proofs.tags.command_tags.Goals as goal
 
 pub returns : goal.returns
 returns c =
-    let tags = c.tags-in.ensures ∙ ap₂ tags-in c.tag-count-count.ensures.value (take_rest c.args.bytes.now 1) in
+    let tags = c.tags-in.ensures ∙ ap₂ tags_in c.tag-count-count.ensures.value (take_rest c.args.bytes.now 1) in
     c.new.ensures ∙ (λ i. record { item = c.item-bits.ensures i; tags = tags i })

@@ -1,10 +1,10 @@
 use Rattle.std.proofs.Common.{◌≡◌, cond, ltb, refl, ap, ◌∙◌, take_all}
-use Rattle.display.specs.Passes.{put-by, row_of}
-use Rattle.display.proofs.RowSteps.{put_next, put-start}
+use Rattle.display.specs.Passes.{put_by, row_of}
+use Rattle.display.proofs.RowSteps.{put_next, put_start}
 use Rattle.display.proofs.rows.store_all.Goals as goal
 
 pub loop-tag-init : goal.loop-tag-init
-loop-tag-init c = (λ k. put-start c.args.text.now c.args.running k (row_of c.args.rows.now c.args.lens.now k), λ f. f)
+loop-tag-init c = (λ k. put_start c.args.text.now c.args.running k (row_of c.args.rows.now c.args.lens.now k), λ f. f)
 
 pub loop-tag-preserved : goal.loop-tag-preserved
 loop-tag-preserved c = (
@@ -17,6 +17,6 @@ returns c =
     let all = take_all c.loop-tag.tag-index c.args.tags.now c.loop-tag-test.false in
     record {
       row = λ k. let old = row_of c.args.rows.now c.args.lens.now k in
-          c.loop-tag.invariant.0 k ∙ ap (λ ts. cond (ltb k 64) (put-by c.args.text.now c.args.running ts k old) old) all;
+          c.loop-tag.invariant.0 k ∙ ap (λ ts. cond (ltb k 64) (put_by c.args.text.now c.args.running ts k old) old) all;
       small = c.loop-tag.invariant.1;
     }

@@ -1,9 +1,9 @@
 use Rattle.std.proofs.Common.{◌≡◌, ◌+◌, length, sym, ap, ◌∙◌, arith}
-use Rattle.label.specs.Drafts.{sealed-outline}
+use Rattle.label.specs.Drafts.{sealed_outline}
 use Rattle.label.specs.Label.{label_of}
-use Rattle.fm.specs.Frames.{last-segment, tags-frame}
-use Rattle.fm.specs.Closed.{closed-length}
-use Rattle.fm.specs.FramesLemmas.{text_at, announcing-at, tags-at, last-few, fitting}
+use Rattle.fm.specs.Frames.{last_segment, tags_frame}
+use Rattle.fm.specs.Closed.{closed_length}
+use Rattle.fm.specs.FramesLemmas.{text_at, announcing_at, tags_at, last_few, fitting}
 use Rattle.fm.proofs.carrier.frame.Goals as goal
 
 pub text-segment-requires : goal.text-segment-requires
@@ -11,19 +11,19 @@ text-segment-requires c =
     let x = c.args.text.now in
     let n = c.args.number in
     record {
-      few = omega (arith, last-few (length x), c.last-last.ensures);
-      inside = closed-length x n (fitting (sealed-outline c.args.label.now) x c.requires.fit c.requires.over) (omega (arith, c.last-last.ensures));
+      few = omega (arith, last_few (length x), c.last-last.ensures);
+      inside = closed_length x n (fitting (sealed_outline c.args.label.now) x c.requires.fit c.requires.over) (omega (arith, c.last-last.ensures));
     }
 
 pub returns-then-number-last : goal.returns-then-number-last
 returns-then-number-last c =
-    c.text-segment.ensures ∙ sym (text_at (label_of (sealed-outline c.args.label.now) c.args.item c.args.text.now) c.args.toggle c.args.service c.args.number (omega (arith, c.last-last.ensures)))
+    c.text-segment.ensures ∙ sym (text_at (label_of (sealed_outline c.args.label.now) c.args.item c.args.text.now) c.args.toggle c.args.service c.args.number (omega (arith, c.last-last.ensures)))
 
 pub returns-then-number-last-2 : goal.returns-then-number-last-2
 returns-then-number-last-2 c =
-    c.announcing.ensures ∙ sym (announcing-at (label_of (sealed-outline c.args.label.now) c.args.item c.args.text.now) c.args.toggle c.args.service c.args.number (omega (arith, c.last-last.ensures)))
+    c.announcing.ensures ∙ sym (announcing_at (label_of (sealed_outline c.args.label.now) c.args.item c.args.text.now) c.args.toggle c.args.service c.args.number (omega (arith, c.last-last.ensures)))
 
 pub returns : goal.returns
 returns c =
-    c.tags-group.ensures ∙ ap (λ ts. tags-frame c.args.item ts c.args.service) c.tags.ensures
-    ∙ sym (tags-at (label_of (sealed-outline c.args.label.now) c.args.item c.args.text.now) c.args.toggle c.args.service c.args.number (omega (arith, c.last-last.ensures)))
+    c.tags-group.ensures ∙ ap (λ ts. tags_frame c.args.item ts c.args.service) c.tags.ensures
+    ∙ sym (tags_at (label_of (sealed_outline c.args.label.now) c.args.item c.args.text.now) c.args.toggle c.args.service c.args.number (omega (arith, c.last-last.ensures)))

@@ -1,10 +1,10 @@
 use Rattle.std.proofs.Common.{◌≡◌, sym, ◌∙◌}
-use Rattle.fm.specs.Held.{fm-held}
-use Rattle.fm.proofs.Arrays.{ends_found, ends-not-yet}
+use Rattle.fm.specs.Held.{fm_held}
+use Rattle.fm.proofs.Arrays.{ends_found, ends_not_yet}
 use Rattle.fm.proofs.pieces.ends_before.Goals as goal
 
 pub returns-then-ends-in : goal.returns-then-ends-in
-returns-then-ends-in c = sym (ends_found (fm-held c.args.held.now c.args.bytes.now) c.args.n c.loop-i.i c.loop-i-test.true (sym c.ends-in.ensures ∙ c.if-ends-in.true))
+returns-then-ends-in c = sym (ends_found (fm_held c.args.held.now c.args.bytes.now) c.args.n c.loop-i.i c.loop-i-test.true (sym c.ends-in.ensures ∙ c.if-ends-in.true))
 
 pub loop-i-preserved : goal.loop-i-preserved
-loop-i-preserved c = ends-not-yet (fm-held c.args.held.now c.args.bytes.now) c.loop-i.i c.loop-i.invariant (sym c.ends-in.ensures ∙ c.if-ends-in.false)
+loop-i-preserved c = ends_not_yet (fm_held c.args.held.now c.args.bytes.now) c.loop-i.i c.loop-i.invariant (sym c.ends-in.ensures ∙ c.if-ends-in.false)

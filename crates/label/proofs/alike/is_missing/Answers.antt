@@ -1,7 +1,7 @@
 use Rattle.std.proofs.Common.{rules}
 use Rattle.label.specs.Tags.{same_tag}
-use Rattle.label.proofs.Sounding.{any-sounding}
+use Rattle.label.proofs.Sounding.{any_sounding}
 use Rattle.label.proofs.alike.is_missing.Goals as goal
 
 pub returns-then-not-is-silent : goal.returns-then-not-is-silent
-returns-then-not-is-silent c = let e = any-sounding (same_tag c.args.tag) c.args.list.now in search rules
+returns-then-not-is-silent c = let e = any_sounding (same_tag c.args.tag) c.args.list.now in search rules

@@ -1,11 +1,11 @@
 use Rattle.std.proofs.Common.{◌≡◌, ℕ, ◌∷◌, length, drop, refl, ap, ◌∙◌, arith}
 use Rattle.std.proofs.lemmas.List.{drop-drop}
 use Rattle.past.specs.Entries.{entries, spare, capacity, latest}
-use Rattle.past.proofs.Runs.{all-latest, one_more, all-of-them}
+use Rattle.past.proofs.Runs.{all_latest, one_more, all_of_them}
 use Rattle.past.proofs.Past.add_all.Goals as goal
 
 pub loop-x-init : goal.loop-x-init
-loop-x-init g c = let s = c.args.self.now in (all-latest s.places.now s.next s.full, refl, refl, refl)
+loop-x-init g c = let s = c.args.self.now in (all_latest s.places.now s.next s.full, refl, refl, refl)
 
 pub loop-x-preserved : goal.loop-x-preserved
 loop-x-preserved g c =
@@ -29,7 +29,7 @@ returns g c =
     let h = c.loop-x.invariant in
     let k : c.loop-x.x-index ≡ length xs = omega arith in
     record {
-      after = h.0 ∙ all-of-them (capacity s) xs (entries s) c.loop-x.x-index c.loop-x-test.false;
+      after = h.0 ∙ all_of_them (capacity s) xs (entries s) c.loop-x.x-index c.loop-x-test.false;
       spare = h.1 ∙ ap (λ (n : ℕ). drop n (spare s)) k;
       size = h.2;
       lent = h.3;

@@ -1,6 +1,6 @@
 use Rattle.std.proofs.Common.{◌≡◌, length, refl, arith}
 use Rattle.std.proofs.lemmas.List.{length-set}
-use Rattle.past.proofs.Adding.{newer, spared, nowhere, nowhere-spared}
+use Rattle.past.proofs.Adding.{newer, spared, nowhere, nowhere_spared}
 use Rattle.past.proofs.Past.put.Goals as goal
 
 pub returns-then-self-gt0 : goal.returns-then-self-gt0
@@ -19,7 +19,7 @@ returns-else-self-gt0 g c =
     let none : length s.places.now ≡ 0 = omega arith in
     record {
       after = nowhere s.places.now s.next s.full c.args.x none;
-      spare = nowhere-spared s.places.now s.next s.full none;
+      spare = nowhere_spared s.places.now s.next s.full none;
       size = refl;
       lent = refl;
     }

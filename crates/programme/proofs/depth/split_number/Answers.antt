@@ -1,7 +1,7 @@
 use Rattle.std.proofs.Common.{◌≡◌, ◌+◌, sym, ◌∙◌, arith, rules}
 use Rattle.std.proofs.lemmas.List.{take_rest}
 use Rattle.std.proofs.lemmas.Bool.{eq-eqb}
-use Rattle.programme.proofs.Numbers.{alone, none-behind, marked, unmarked, spoilt}
+use Rattle.programme.proofs.Numbers.{alone, none_behind, marked, unmarked, spoilt}
 use Rattle.programme.proofs.depth.split_number.Goals as goal
 use Rattle.programme.proofs.depth.split_number.Goals.{else-is-mark-via-then-is-mark+else-digits-fraction, else-is-mark-via-else-is-mark}
 
@@ -10,7 +10,7 @@ returns-then-n-s c =
     let rest = take_rest c.args.s.now c.digits-n.result in
     record {
       value = alone c.args.s.now c.digits-n.result c.digits-n.ensures.value (omega arith) _ _ (search rules) rest (omega arith);
-      digits = none-behind c.args.s.now c.digits-n.result c.digits-n.ensures.value (omega arith) _ rest (omega arith);
+      digits = none_behind c.args.s.now c.digits-n.result c.digits-n.ensures.value (omega arith) _ rest (omega arith);
     }
 
 pub returns-then-digits-fraction : goal.returns-then-digits-fraction

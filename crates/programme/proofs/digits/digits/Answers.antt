@@ -1,16 +1,16 @@
 use Rattle.std.proofs.Common.{◌≡◌, sym, ◌∙◌, arith}
 use Rattle.std.proofs.lemmas.List.Sums.{prefix_len-drop_yes, prefix_len-drop_no, prefix_len-drop_all}
-use Rattle.programme.specs.Numerals.{isDigit}
+use Rattle.programme.specs.Numerals.{is_digit}
 use Rattle.programme.proofs.digits.digits.Goals as goal
 
 pub loop-n-preserved : goal.loop-n-preserved
-loop-n-preserved c = let e = prefix_len-drop_yes isDigit c.args.s.now c.loop-n.n 0 c.loop-n-test.true (sym c.if-is-digit.ensures) in
+loop-n-preserved c = let e = prefix_len-drop_yes is_digit c.args.s.now c.loop-n.n 0 c.loop-n-test.true (sym c.if-is-digit.ensures) in
     (omega arith, omega arith)
 
 pub returns-else-is-digit : goal.returns-else-is-digit
-returns-else-is-digit c = let e = prefix_len-drop_no isDigit c.args.s.now c.loop-n.n 0 c.loop-n-test.true (sym c.if-is-digit.ensures) in
+returns-else-is-digit c = let e = prefix_len-drop_no is_digit c.args.s.now c.loop-n.n 0 c.loop-n-test.true (sym c.if-is-digit.ensures) in
     record { value = omega arith; within = omega arith }
 
 pub returns-after-loop-n : goal.returns-after-loop-n
-returns-after-loop-n c = let e = prefix_len-drop_all isDigit c.args.s.now c.loop-n.n c.loop-n-test.false in
+returns-after-loop-n c = let e = prefix_len-drop_all is_digit c.args.s.now c.loop-n.n c.loop-n-test.false in
     record { value = omega arith; within = omega arith }

@@ -1,13 +1,13 @@
 use Rattle.std.proofs.Common.{◌≡◌, ℕ, ◌+◌, ◌-◌, List, take, drop, ap, ◌∙◌}
 use native.Mathlib.Nat.{sub-zero}
-use Rattle.programme.specs.Lines.{separatorAt, reading_of, gaugeOf}
+use Rattle.programme.specs.Lines.{separator_at, reading_of, gauge_of}
 use Rattle.programme.specs.Rows.{field}
 use Rattle.programme.proofs.line.gauge.Goals as goal
 
-parted : (s time metres : List ℕ) (n : ℕ) → n ≡ separatorAt s → time ≡ field (take (n - 0) s) → metres ≡ field (drop (n + 1) s) → reading_of time metres ≡ gaugeOf s
+parted : (s time metres : List ℕ) (n : ℕ) → n ≡ separator_at s → time ≡ field (take (n - 0) s) → metres ≡ field (drop (n + 1) s) → reading_of time metres ≡ gauge_of s
 parted s time metres n e p q =
     ap (λ x. reading_of x metres) (p ∙ ap (λ k. field (take k s)) (sub-zero n ∙ e))
-    ∙ ap (λ y. reading_of (field (take (separatorAt s) s)) y) (q ∙ ap (λ k. field (drop (k + 1) s)) e)
+    ∙ ap (λ y. reading_of (field (take (separator_at s) s)) y) (q ∙ ap (λ k. field (drop (k + 1) s)) e)
 
 pub returns : goal.returns
 returns c =

@@ -1,18 +1,18 @@
 use Rattle.std.proofs.Common.{◌≡◌, ◌+◌, false, ◌&&◌, eqb, get_or, sym, ap, ◌∙◌, arith}
 use Rattle.std.proofs.lemmas.Bool.{ne_eqb, and_left, and_right}
-use Rattle.programme.specs.Times.{isClock}
-use Rattle.programme.proofs.Scans.{dated-space, dated-t, dated-pass, dated-end}
+use Rattle.programme.specs.Times.{is_clock}
+use Rattle.programme.proofs.Scans.{dated_space, dated_t, dated_pass, dated_end}
 use Rattle.programme.proofs.time.is_dated.Goals as goal
 use Rattle.programme.proofs.time.is_dated.Goals.{else-s-i-eq84-via-then-s-i-eq84+else-clock, else-s-i-eq84-via-else-s-i-eq84}
 
 pub returns-then-s-i-eq32 : goal.returns-then-s-i-eq32
 returns-then-s-i-eq32 c =
-    sym (dated-space c.args.s.now c.loop-i.i c.loop-i-test.true c.is-clock-clock.result (c.is-clock-clock.ensures ∙ ap isClock c.from.ensures) c.if-s-i-eq32.true)
+    sym (dated_space c.args.s.now c.loop-i.i c.loop-i-test.true c.is-clock-clock.result (c.is-clock-clock.ensures ∙ ap is_clock c.from.ensures) c.if-s-i-eq32.true)
     ∙ c.loop-i.invariant.1
 
 pub returns-then-clock : goal.returns-then-clock
 returns-then-clock c =
-    sym (dated-t c.args.s.now c.loop-i.i c.loop-i-test.true c.is-clock-clock.result (c.is-clock-clock.ensures ∙ ap isClock c.from.ensures) c.if-s-i-eq32.false c.if-s-i-eq84.true c.if-clock.true)
+    sym (dated_t c.args.s.now c.loop-i.i c.loop-i-test.true c.is-clock-clock.result (c.is-clock-clock.ensures ∙ ap is_clock c.from.ensures) c.if-s-i-eq32.false c.if-s-i-eq84.true c.if-clock.true)
     ∙ c.loop-i.invariant.1
 
 pub loop-i-preserved : goal.loop-i-preserved
@@ -23,9 +23,9 @@ loop-i-preserved c =
       | else-s-i-eq84-via-else-s-i-eq84 w ↦ and_left _ _ (ne_eqb _ 84 w.if-s-i-eq84.false)
     ] in (
       omega arith,
-      sym (dated-pass c.args.s.now c.loop-i.i c.loop-i-test.true c.is-clock-clock.result (c.is-clock-clock.ensures ∙ ap isClock c.from.ensures) c.if-s-i-eq32.false pass)
+      sym (dated_pass c.args.s.now c.loop-i.i c.loop-i-test.true c.is-clock-clock.result (c.is-clock-clock.ensures ∙ ap is_clock c.from.ensures) c.if-s-i-eq32.false pass)
           ∙ c.loop-i.invariant.1,
     )
 
 pub returns : goal.returns
-returns c = sym (dated-end c.args.s.now c.loop-i.i c.loop-i-test.false) ∙ c.loop-i.invariant.1
+returns c = sym (dated_end c.args.s.now c.loop-i.i c.loop-i-test.false) ∙ c.loop-i.invariant.1

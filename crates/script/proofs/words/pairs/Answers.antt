@@ -1,5 +1,5 @@
 use Rattle.std.proofs.Common.{◌≡◌, [], ◌∷◌, ◌++◌, vec_items, arith, rules}
-use Rattle.script.proofs.Pairs.{stray, next, odd-end, even-end}
+use Rattle.script.proofs.Pairs.{stray, next, odd_end, even_end}
 use Rattle.script.proofs.words.pairs.Goals as goal
 
 pub returns-in-None : goal.returns-in-None
@@ -11,7 +11,7 @@ loop-i-preserved c =
     next c.args.digits.now c.loop-i.i c.loop-i-test.true (vec_items c.loop-i.bytes) (vec_items c.push.new.self) c.in-Some.byte c.loop-i.invariant c.in-Some.ensures pushed
 
 pub returns-then-digits-eq1 : goal.returns-then-digits-eq1
-returns-then-digits-eq1 c = odd-end c.args.digits.now (vec_items c.loop-i.bytes) c.loop-i.i (omega arith) (omega arith) c.if-digits-eq1.true c.loop-i.invariant
+returns-then-digits-eq1 c = odd_end c.args.digits.now (vec_items c.loop-i.bytes) c.loop-i.i (omega arith) (omega arith) c.if-digits-eq1.true c.loop-i.invariant
 
 pub returns : goal.returns
-returns c = even-end c.args.digits.now (vec_items c.loop-i.bytes) c.loop-i.i (omega arith) (omega arith) c.if-digits-eq1.false c.loop-i.invariant
+returns c = even_end c.args.digits.now (vec_items c.loop-i.bytes) c.loop-i.i (omega arith) (omega arith) c.if-digits-eq1.false c.loop-i.invariant

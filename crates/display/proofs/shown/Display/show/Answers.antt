@@ -1,12 +1,12 @@
 use Rattle.std.proofs.Common.{refl}
 use Rattle.display.specs.Held.{held}
 use Rattle.display.specs.View.{view}
-use Rattle.display.proofs.RowSteps.{table-told}
+use Rattle.display.proofs.RowSteps.{table_told}
 use Rattle.display.proofs.shown.Display.show.Goals as goal
 
 pub returns : goal.returns
 returns g c = record {
   carrier = refl;
-  table = table-told (view g.C.Carrier.state c.args.self.now).table (g.C.Carrier.meaning.told (g.C.Carrier.state c.args.self.now.carrier)) (held c.apply.new.self) c.text.result.now c.tags.result.now c.item-item.result
+  table = table_told (view g.C.Carrier.state c.args.self.now).table (g.C.Carrier.meaning.told (g.C.Carrier.state c.args.self.now.carrier)) (held c.apply.new.self) c.text.result.now c.tags.result.now c.item-item.result
       c.requires c.text.ensures.value c.tags.ensures.value c.item-item.ensures c.apply.ensures;
 }

@@ -1,9 +1,9 @@
 use Rattle.std.proofs.Common.{[], get_or, replicate}
-use Rattle.display.proofs.Written.{zeros-small, zeros-none}
+use Rattle.display.proofs.Written.{zeros_small, zeros_none}
 use Rattle.display.proofs.table.ClassTable.new.Goals as goal
 
 pub invariant-of-result : goal.invariant-of-result
-invariant-of-result c = (zeros-small 64, tt)
+invariant-of-result c = (zeros_small 64, tt)
 
 pub returns : goal.returns
-returns c = λ k. zeros-none 64 k (get_or (replicate 64 (replicate 128 0)) k [])
+returns c = λ k. zeros_none 64 k (get_or (replicate 64 (replicate 128 0)) k [])

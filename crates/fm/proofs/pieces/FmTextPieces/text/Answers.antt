@@ -1,5 +1,5 @@
 use Rattle.std.proofs.Common.{◌≡◌, ◌-◌, length, take, Some, None, sym, refl, ap, ◌∙◌, arith, length-take}
-use Rattle.fm.proofs.Arrays.{copied-out}
+use Rattle.fm.proofs.Arrays.{copied_out}
 use Rattle.fm.proofs.pieces.FmTextPieces.text.Goals as goal
 
 pub returns : goal.returns
@@ -7,6 +7,6 @@ returns c =
     let zero-off : c.in-ok-len.len - 0 ≡ c.in-ok-len.len = omega arith in
     let all : length c.copy-from-slice.new.self ≡ c.in-ok-len.len = omega (arith, c.copy-from-slice.ensures.len, c.in-ok-len.ensures.short, length-take (c.in-ok-len.len - 0) c.args.out.now) in
     record {
-      text = c.in-ok-len.ensures.text ∙ ap Some (sym (copied-out c.args.self.now.bytes c.copy-from-slice.new.self _ c.in-ok-len.len (c.copy-from-slice.ensures.after ∙ ap (λ k. take k c.args.self.now.bytes) zero-off) all));
+      text = c.in-ok-len.ensures.text ∙ ap Some (sym (copied_out c.args.self.now.bytes c.copy-from-slice.new.self _ c.in-ok-len.len (c.copy-from-slice.ensures.after ∙ ap (λ k. take k c.args.self.now.bytes) zero-off) all));
       short = omega (arith, c.in-ok-len.ensures.short);
     }

@@ -2,12 +2,12 @@ use Rattle.std.proofs.Common.{◌≡◌, ◌<◌, length, take, None, ap, ◌∙
 use Rattle.std.proofs.lemmas.List.{take_more_set, length-take}
 use Rattle.label.specs.declared.sealed.Draft.{Draft}
 use Rattle.label.specs.declared.tag.Tag.{Tag}
-use Rattle.label.specs.Drafts.{tagging-refusal, draft-outline}
+use Rattle.label.specs.Drafts.{tagging_refusal, draft_outline}
 use Rattle.label.specs.Lawful.{sealable}
-use Rattle.label.proofs.Tagging.{accepted, sealable-push}
+use Rattle.label.proofs.Tagging.{accepted, sealable_push}
 use Rattle.label.proofs.sealed.Draft.push.Goals as goal
 
-has_room : (d : Draft) (t : Tag) → length d.tags ≡ 4 → tagging-refusal (draft-outline d) t ≡ None → d.count < length d.tags
+has_room : (d : Draft) (t : Tag) → length d.tags ≡ 4 → tagging_refusal (draft_outline d) t ≡ None → d.count < length d.tags
 has_room d t l r = let k = (accepted d.len (take d.count d.tags) t r).room in omega (arith, k, length-take d.count d.tags)
 
 pub bounds-self-at : goal.bounds-self-at
@@ -23,7 +23,7 @@ invariant-of-self c =
         d.short,
         (
           omega (arith, l),
-          (ap (sealable d.len) (take_more_set d.tags d.count t l) ∙ sealable-push d.len (take d.count d.tags) t d.right c.requires, tt),
+          (ap (sealable d.len) (take_more_set d.tags d.count t l) ∙ sealable_push d.len (take d.count d.tags) t d.right c.requires, tt),
         ),
       ),
     )

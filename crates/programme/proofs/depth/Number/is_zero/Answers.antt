@@ -1,6 +1,6 @@
 use Rattle.std.proofs.Common.{◌≡◌, sym, ap, ◌∙◌, arith}
 use Rattle.std.proofs.lemmas.Bool.{ne_eqb}
-use Rattle.programme.proofs.Values.{both_zero, part-le}
+use Rattle.programme.proofs.Values.{both_zero, part_le}
 use Rattle.programme.proofs.depth.Number.is_zero.Goals as goal
 
 pub returns-then-up-to-100-eq0 : goal.returns-then-up-to-100-eq0
@@ -10,4 +10,4 @@ returns-then-up-to-100-eq0 c =
 pub returns-else-up-to-100-eq0 : goal.returns-else-up-to-100-eq0
 returns-else-up-to-100-eq0 c =
     ne_eqb c.up-to-100.result 0 c.if-up-to-100-eq0.false
-    ∙ sym (ne_eqb _ 0 (λ e. omega (arith, e, part-le c.args.self.whole.now c.args.self.fraction.now)))
+    ∙ sym (ne_eqb _ 0 (λ e. omega (arith, e, part_le c.args.self.whole.now c.args.self.fraction.now)))

@@ -1,13 +1,13 @@
 use Rattle.std.proofs.Common.{arith}
-use Rattle.programme.proofs.Values.{too-deep, measured, tenth-lt}
+use Rattle.programme.proofs.Values.{too_deep, measured, tenth_lt}
 use Rattle.programme.proofs.depth.Number.tenths.Goals as goal
 
 pub returns-then-metres-eq100 : goal.returns-then-metres-eq100
 returns-then-metres-eq100 c =
-    too-deep c.args.self.whole.now c.args.self.fraction.now _ c.requires c.up-to-100-metres.ensures c.if-metres-eq100.true
+    too_deep c.args.self.whole.now c.args.self.fraction.now _ c.requires c.up-to-100-metres.ensures c.if-metres-eq100.true
 
 pub overflow-add-result : goal.overflow-add-result
-overflow-add-result c = omega (arith, tenth-lt c.args.self.fraction.now c.requires)
+overflow-add-result c = omega (arith, tenth_lt c.args.self.fraction.now c.requires)
 
 pub returns : goal.returns
 returns c =

@@ -1,6 +1,6 @@
 use Rattle.std.proofs.Common.{◌≡◌, ℕ, ◌+◌, ◌<◌, length, take, sym, refl, ap, ◌∙◌, arith, length-set}
 use Rattle.label.specs.declared.tag.Tag.{Tag}
-use Rattle.taking.proofs.Sounding.{sounds-here, is-left-out}
+use Rattle.taking.proofs.Sounding.{sounds_here, is_left_out}
 use Rattle.taking.proofs.arrived.Arrived.sounded.Goals as goal
 use Rattle.taking.proofs.arrived.Arrived.sounded.Goals.{then-not-is-silent, else-not-is-silent}
 
@@ -14,12 +14,12 @@ loop-i-preserved c =
         omega (arith, w.count-is, c.loop-i.invariant.0),
         ap length w.tags-is ∙ length-set c.loop-i.tags c.loop-i.count _ ∙ c.loop-i.invariant.1,
         ap (λ n. take n c.if-not-is-silent.tags) w.count-is ∙ ap (take (c.loop-i.count + 1)) w.tags-is
-            ∙ sounds-here c.args.self.now.tags c.loop-i.tags c.loop-i.i c.loop-i.count none c.loop-i.invariant.2 (omega arith) (omega arith) (sym c.is-silent.ensures ∙ w.if-not-is-silent.true),
+            ∙ sounds_here c.args.self.now.tags c.loop-i.tags c.loop-i.i c.loop-i.count none c.loop-i.invariant.2 (omega arith) (omega arith) (sym c.is-silent.ensures ∙ w.if-not-is-silent.true),
       )
       | else-not-is-silent w ↦ (
         omega (arith, w.count-is, c.loop-i.invariant.0),
         ap length w.tags-is ∙ c.loop-i.invariant.1,
         ap (λ n. take n c.if-not-is-silent.tags) w.count-is ∙ ap (take c.loop-i.count) w.tags-is
-            ∙ is-left-out c.args.self.now.tags c.loop-i.tags c.loop-i.i c.loop-i.count none c.loop-i.invariant.2 (omega arith) (sym c.is-silent.ensures ∙ w.if-not-is-silent.false),
+            ∙ is_left_out c.args.self.now.tags c.loop-i.tags c.loop-i.i c.loop-i.count none c.loop-i.invariant.2 (omega arith) (sym c.is-silent.ensures ∙ w.if-not-is-silent.false),
       )
     ]

@@ -2,13 +2,13 @@ use Rattle.std.proofs.Common.{◌≡◌, ◌≤◌, true, length, take, sym, ap,
 use Rattle.std.proofs.lemmas.List.{length-take}
 use Rattle.label.specs.Lawful.{sealable}
 use Rattle.label.specs.Tags.{sounding}
-use Rattle.label.proofs.Sounding.{sealable-sounding}
-use Rattle.taking.specs.Views.{tags-of}
+use Rattle.label.proofs.Sounding.{sealable_sounding}
+use Rattle.taking.specs.Views.{tags_of}
 use Rattle.taking.proofs.arrived.Arrived.tell.Goals as goal
 
 pub invariant-of-result : goal.invariant-of-result
 invariant-of-result c =
-    let ts = (tags-of c.args.self.now).tags in
+    let ts = (tags_of c.args.self.now).tags in
     let e = c.sounded-count.ensures.tags in
     let few : length (sounding ts) ≤ 4 = omega (arith, ap length e, length-take c.sounded-count.result.count c.sounded-count.result.tags, c.sounded-count.result.few) in
-    (c.requires.short, (c.sounded-count.result.few, (ap (sealable c.args.len) e ∙ sealable-sounding c.args.len ts few c.requires.right, tt)))
+    (c.requires.short, (c.sounded-count.result.few, (ap (sealable c.args.len) e ∙ sealable_sounding c.args.len ts few c.requires.right, tt)))

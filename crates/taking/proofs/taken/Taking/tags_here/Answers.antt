@@ -1,41 +1,41 @@
 use Rattle.std.proofs.Common.{◌≡◌, Bool, true, false, length, take, sym, refl, ap, ◌∙◌, arith}
 use Rattle.std.proofs.lemmas.List.{length-take-le}
-use Rattle.taking.specs.Views.{view, tags-of, told_of, told-label}
-use Rattle.taking.proofs.Steps.{lawful-here, told_is, took, turned_down, met-unlawful, met-first, met-again, met-unlike}
+use Rattle.taking.specs.Views.{view, tags_of, told_of, told_label}
+use Rattle.taking.proofs.Steps.{lawful_here, told_is, took, turned_down, met_unlawful, met_first, met_again, met_unlike}
 use Rattle.taking.proofs.taken.Taking.tags_here.Goals as goal
 
 pub returns-then-not-are-lawful : goal.returns-then-not-are-lawful
 returns-then-not-are-lawful g c =
     let s = view g.P.Pieces.held c.args.self.now in
     let x = take c.in-Some.len c.text.new.out in
-    let w = tags-of c.args.arrived.now in
-    turned_down s (met-unlawful s x w _ c.in-Some.ensures.text
-    (lawful-here c.are-lawful.result c.in-Some.len x w.tags c.are-lawful.ensures (length-take-le c.in-Some.len c.text.new.out (omega (arith, c.in-Some.ensures.short, c.text.array_long))) ∙ c.if-not-are-lawful.true))
+    let w = tags_of c.args.arrived.now in
+    turned_down s (met_unlawful s x w _ c.in-Some.ensures.text
+    (lawful_here c.are-lawful.result c.in-Some.len x w.tags c.are-lawful.ensures (length-take-le c.in-Some.len c.text.new.out (omega (arith, c.in-Some.ensures.short, c.text.array_long))) ∙ c.if-not-are-lawful.true))
 
 pub returns-then-agrees : goal.returns-then-agrees
 returns-then-agrees g c =
     let s = view g.P.Pieces.held c.args.self.now in
     let x = take c.in-Some.len c.text.new.out in
-    let w = tags-of c.args.arrived.now in
-    took s s s (met-again s x w _ c.in-Some.ensures.text (told-label c.in-Some-told.told)
-    (lawful-here c.are-lawful.result c.in-Some.len x w.tags c.are-lawful.ensures (length-take-le c.in-Some.len c.text.new.out (omega (arith, c.in-Some.ensures.short, c.text.array_long))) ∙ c.if-not-are-lawful.false)
+    let w = tags_of c.args.arrived.now in
+    took s s s (met_again s x w _ c.in-Some.ensures.text (told_label c.in-Some-told.told)
+    (lawful_here c.are-lawful.result c.in-Some.len x w.tags c.are-lawful.ensures (length-take-le c.in-Some.len c.text.new.out (omega (arith, c.in-Some.ensures.short, c.text.array_long))) ∙ c.if-not-are-lawful.false)
     (ap told_of c.in-Some-told.is) (sym c.agrees.ensures ∙ c.if-agrees.true)) refl
 
 pub returns-else-agrees : goal.returns-else-agrees
 returns-else-agrees g c =
     let s = view g.P.Pieces.held c.args.self.now in
     let x = take c.in-Some.len c.text.new.out in
-    let w = tags-of c.args.arrived.now in
-    turned_down s (met-unlike s x w _ c.in-Some.ensures.text (told-label c.in-Some-told.told)
-    (lawful-here c.are-lawful.result c.in-Some.len x w.tags c.are-lawful.ensures (length-take-le c.in-Some.len c.text.new.out (omega (arith, c.in-Some.ensures.short, c.text.array_long))) ∙ c.if-not-are-lawful.false)
+    let w = tags_of c.args.arrived.now in
+    turned_down s (met_unlike s x w _ c.in-Some.ensures.text (told_label c.in-Some-told.told)
+    (lawful_here c.are-lawful.result c.in-Some.len x w.tags c.are-lawful.ensures (length-take-le c.in-Some.len c.text.new.out (omega (arith, c.in-Some.ensures.short, c.text.array_long))) ∙ c.if-not-are-lawful.false)
     (ap told_of c.in-Some-told.is) (sym c.agrees.ensures ∙ c.if-agrees.false))
 
 pub returns-in-None : goal.returns-in-None
 returns-in-None g c =
     let s = view g.P.Pieces.held c.args.self.now in
     let x = take c.in-Some.len c.text.new.out in
-    let w = tags-of c.args.arrived.now in
-    took s _ _ (met-first s x w _ c.in-Some.ensures.text
-    (lawful-here c.are-lawful.result c.in-Some.len x w.tags c.are-lawful.ensures (length-take-le c.in-Some.len c.text.new.out (omega (arith, c.in-Some.ensures.short, c.text.array_long))) ∙ c.if-not-are-lawful.false)
+    let w = tags_of c.args.arrived.now in
+    took s _ _ (met_first s x w _ c.in-Some.ensures.text
+    (lawful_here c.are-lawful.result c.in-Some.len x w.tags c.are-lawful.ensures (length-take-le c.in-Some.len c.text.new.out (omega (arith, c.in-Some.ensures.short, c.text.array_long))) ∙ c.if-not-are-lawful.false)
     (ap told_of c.in-None.is))
     (told_is s x w _ c.tell.ensures)
