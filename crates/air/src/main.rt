@@ -1,4 +1,6 @@
 // air: a programme of gauge readings, songs and announcements becomes the frames of a carrier.
+#![tactic(auto)]
+
 mod arguments;
 mod transmitter;
 

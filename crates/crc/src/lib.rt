@@ -1,3 +1,5 @@
+#![tactic(auto)]
+
 ghost use Rattle.crc.specs.Check.{check_of, dividend, number, remainder};
 ghost use Rattle.crc.specs.Register.{byte_in, stepped};
 ghost use Rattle.std.specs.Prelude.{◌≡◌};

@@ -1,4 +1,6 @@
 // The DAB carrier: Dynamic Label with DL Plus.
+#![tactic(auto)]
+
 pub mod carrier;
 mod command;
 pub mod dab;

@@ -1,4 +1,6 @@
 // The display: what it holds for each class, and what a frame does to it, whichever carrier it stands on.
+#![tactic(auto)]
+
 mod complete;
 pub mod display;
 mod rows;

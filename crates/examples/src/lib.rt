@@ -1,4 +1,6 @@
 // Worked labels, as tests of the layers below.
+#![tactic(auto)]
+
 #[cfg(test)]
 mod drafts;
 #[cfg(test)]

@@ -1,4 +1,6 @@
 // FM: labels as RadioText with RT+.
+#![tactic(auto)]
+
 pub mod carrier;
 pub mod fm;
 mod frame;

@@ -1,4 +1,6 @@
 // The front of a display: the depth that stands there in large figures, and its lamp test.
+#![tactic(auto)]
+
 pub mod front;
 pub mod lamps;
 pub mod reading;

@@ -1,4 +1,6 @@
 // Labels: classes, tags, lawful lists, drafts and sealed labels, and the refusals of the whole system.
+#![tactic(auto)]
+
 pub mod alike;
 pub mod category;
 pub mod draft;

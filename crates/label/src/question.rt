@@ -17,7 +17,7 @@ pub trait Question {
 
 // Some tag of the list answers yes.
 pub fn any_tag<Q: Question>(question: &Q, tags: &[Tag]) -> bool
-    ensures { result ≡ any (answer question.now) tags.now }
+    ensures { result ≡ any (Q.answer question.now) tags.now }
 {
     for t in tags {
         if question.ask(*t) {

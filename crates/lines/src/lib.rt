@@ -1,3 +1,5 @@
 // Frames and refusals as lines of text.
+#![tactic(auto)]
+
 pub mod form;
 pub mod reason;

@@ -1,4 +1,6 @@
 // A studio's programme, line by line: what a line says, and the label that is made of it.
+#![tactic(auto)]
+
 pub mod composed;
 mod depth;
 mod digits;

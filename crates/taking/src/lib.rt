@@ -1,4 +1,6 @@
 // What taking does on every carrier.
+#![tactic(auto)]
+
 pub mod arrived;
 pub mod look;
 pub mod pieces;

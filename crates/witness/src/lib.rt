@@ -1,4 +1,6 @@
 // The theorem on named carriers, and runs that meet its premises.
+#![tactic(auto)]
+
 ghost use Rattle.agreement.specs.Runs.{Agreement};
 ghost use Rattle.dab.specs.Taking.{dab};
 ghost use Rattle.fm.specs.Taking.{fm};

@@ -10,7 +10,7 @@ loop-byte-preserved c =
     let i = c.loop-byte.byte-index in
     let b : get_or s i 0 < 256 = search rules in (
       search rules,
-      ap (λ n. from n (drop (i + 1) s)) c.take-byte-register.ensures
+      ap (λ n. from n (drop (i + 1) s)) c.take_byte-register.ensures
           ∙ sym (from_byte c.loop-byte.register (get_or s i 0) (drop (i + 1) s) (omega arith) b)
           ∙ sym (at_drop_more (from c.loop-byte.register) s i 0 c.loop-byte-test.true)
           ∙ c.loop-byte.invariant.1,

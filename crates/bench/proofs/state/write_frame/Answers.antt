@@ -14,10 +14,10 @@ returns c =
     let text = c.args.text.now in
     let w = writing_of c.args.carrier in
     let f = c.args.frame in
-    let handed : c.as-mut-slice.result.now ≡ fresh c.args.size = c.as-mut-slice.ensures.value ∙ c.in-ok-space.ensures in
-    let long : length c.write-call.new.space ≡ c.in-ok-space.space.len = omega (arith, c.write-call.auto.space, c.as-mut-slice.ensures.len) in
+    let handed : c.as_mut_slice.result.now ≡ fresh c.args.size = c.as_mut_slice.ensures.value ∙ c.in_ok-space.ensures in
+    let long : length c.write-call.new.space ≡ c.in_ok-space.space.len = omega (arith, c.write-call.auto.space, c.as_mut_slice.ensures.len) in
     let said = c.write-call.ensures.reply ∙ ap (λ (b : List ℕ). done (write_refusal w o text f.number (length b)) tt) handed in
-    let shown = with_items_is c.in-ok-space.space c.write-call.new.space long
+    let shown = with_items_is c.in_ok-space.space c.write-call.new.space long
     ∙ c.write-call.ensures.space
     ∙ ap (λ (b : List ℕ). left (write_refusal w o text f.number (length b)) (place (w.frame (label_of o no_item text) f.toggle f.service f.number) ++ drop 21 b) b) handed in
     (λ i. with_buffer (call_line (said i)) (shown i))

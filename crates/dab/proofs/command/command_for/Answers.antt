@@ -8,5 +8,5 @@ pub returns : goal.returns
 unfolding command_body
 returns c =
     let t = c.args.toggle in
-    c.command-with.ensures
-    ∙ ap (λ d. place (framed (command_first t ∷ command_second t (length d) ∷ d))) (data_taken c.args.item c.args.tags.now _ _ c.command-data-bytes.ensures)
+    c.command_with.ensures
+    ∙ ap (λ d. place (framed (command_first t ∷ command_second t (length d) ∷ d))) (data_taken c.args.item c.args.tags.now _ _ c.command_data-bytes.ensures)

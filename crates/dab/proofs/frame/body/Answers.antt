@@ -4,4 +4,4 @@ use Rattle.dab.proofs.frame.body.Goals as goal
 
 pub returns : goal.returns
 returns c =
-    ap (λ l. c.args.first ∷ (c.args.second ∷ l)) (filled c.args.bytes.now _ 2 16 c.copy-from-slice.ensures.after)
+    ap (λ l. c.args.first ∷ (c.args.second ∷ l)) (filled c.args.bytes.now _ 2 16 c.copy_from_slice.ensures.after)

@@ -7,7 +7,7 @@ use Rattle.dab.proofs.Rows.{ends_found, ends_not_yet}
 use Rattle.dab.proofs.pieces.ends_before.Goals as goal
 
 pub returns-then-ends : goal.returns-then-ends
-returns-then-ends c = sym (ends_found (held_in c.args.segments.now) c.args.number c.loop-i.i c.loop-i-test.true (ap (λ o. ends_at dab_segments (option_map flagged o)) (sym c.held-at.ensures) ∙ sym c.ends.ensures ∙ c.if-ends.true))
+returns-then-ends c = sym (ends_found (held_in c.args.segments.now) c.args.number c.loop-i.i c.loop-i-test.true (ap (λ o. ends_at dab_segments (option_map flagged o)) (sym c.held_at.ensures) ∙ sym c.ends.ensures ∙ c.if-ends.true))
 
 pub loop-i-preserved : goal.loop-i-preserved
-loop-i-preserved c = ends_not_yet (held_in c.args.segments.now) c.loop-i.i c.loop-i.invariant (ap (λ o. ends_at dab_segments (option_map flagged o)) (sym c.held-at.ensures) ∙ sym c.ends.ensures ∙ c.if-ends.false)
+loop-i-preserved c = ends_not_yet (held_in c.args.segments.now) c.loop-i.i c.loop-i.invariant (ap (λ o. ends_at dab_segments (option_map flagged o)) (sym c.held_at.ensures) ∙ sym c.ends.ensures ∙ c.if-ends.false)

@@ -8,4 +8,4 @@ unfolding text_body
 returns c =
     let s = c.segment-segment.ensures.value in
     c.frame.ensures
-    ∙ same_frame (c.text-first-first.ensures ∙ ap₂ (text_first c.args.toggle c.args.number) c.last-segment.ensures (ap length s)) c.text-second.ensures s
+    ∙ same_frame (c.text_first-first.ensures ∙ ap₂ (text_first c.args.toggle c.args.number) c.last_segment.ensures (ap length s)) c.text_second.ensures s

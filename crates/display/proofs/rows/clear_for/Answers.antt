@@ -4,4 +4,4 @@ use Rattle.display.proofs.RowSteps.{far_class}
 use Rattle.display.proofs.rows.clear_for.Goals as goal
 
 pub returns-else-class-lt64 : goal.returns-else-class-lt64
-returns-else-class-lt64 c = λ k. far_class c.args.lens.now c.args.class k (item_class k) (omega arith) (sym c.if-is-item.ensures)
+returns-else-class-lt64 c = λ k. far_class c.args.lens.now c.args.class k (item_class k) (omega arith) (sym c.if-is_item.ensures)

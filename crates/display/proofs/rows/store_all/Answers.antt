@@ -8,8 +8,8 @@ loop-tag-init c = (λ k. put_start c.args.text.now c.args.running k (row_of c.ar
 
 pub loop-tag-preserved : goal.loop-tag-preserved
 loop-tag-preserved c = (
-  λ k. put_next c.args.text.now c.args.tags.now c.loop-tag.tag-index _ _ c.loop-tag-test.true refl c.args.running k _ _ _ (c.loop-tag.invariant.0 k) (c.store-tag.ensures.row k),
-  λ f. c.store-tag.ensures.small (c.loop-tag.invariant.1 f),
+  λ k. put_next c.args.text.now c.args.tags.now c.loop-tag.tag-index _ _ c.loop-tag-test.true refl c.args.running k _ _ _ (c.loop-tag.invariant.0 k) (c.store_tag.ensures.row k),
+  λ f. c.store_tag.ensures.small (c.loop-tag.invariant.1 f),
 )
 
 pub returns : goal.returns

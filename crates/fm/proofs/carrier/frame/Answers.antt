@@ -6,8 +6,8 @@ use Rattle.fm.specs.Closed.{closed_length}
 use Rattle.fm.specs.FramesLemmas.{text_at, announcing_at, tags_at, last_few, fitting}
 use Rattle.fm.proofs.carrier.frame.Goals as goal
 
-pub text-segment-requires : goal.text-segment-requires
-text-segment-requires c =
+pub text_segment-requires : goal.text_segment-requires
+text_segment-requires c =
     let x = c.args.text.now in
     let n = c.args.number in
     record {
@@ -17,7 +17,7 @@ text-segment-requires c =
 
 pub returns-then-number-last : goal.returns-then-number-last
 returns-then-number-last c =
-    c.text-segment.ensures ∙ sym (text_at (label_of (sealed_outline c.args.label.now) c.args.item c.args.text.now) c.args.toggle c.args.service c.args.number (omega (arith, c.last-last.ensures)))
+    c.text_segment.ensures ∙ sym (text_at (label_of (sealed_outline c.args.label.now) c.args.item c.args.text.now) c.args.toggle c.args.service c.args.number (omega (arith, c.last-last.ensures)))
 
 pub returns-then-number-last-2 : goal.returns-then-number-last-2
 returns-then-number-last-2 c =
@@ -25,5 +25,5 @@ returns-then-number-last-2 c =
 
 pub returns : goal.returns
 returns c =
-    c.tags-group.ensures ∙ ap (λ ts. tags_frame c.args.item ts c.args.service) c.tags.ensures
+    c.tags_group.ensures ∙ ap (λ ts. tags_frame c.args.item ts c.args.service) c.tags.ensures
     ∙ sym (tags_at (label_of (sealed_outline c.args.label.now) c.args.item c.args.text.now) c.args.toggle c.args.service c.args.number (omega (arith, c.last-last.ensures)))

@@ -4,4 +4,4 @@ use Rattle.carrier.specs.Writing.{place}
 use Rattle.fm.proofs.carrier.lay.Goals as goal
 
 pub returns : goal.returns
-returns c = c.in-place.ensures ∙ ap place (take_all 20 c.frame.result (omega arith) ∙ c.frame.ensures)
+returns c = c.in_place.ensures ∙ ap place (take_all 20 c.frame.result (omega arith) ∙ c.frame.ensures)

@@ -2,5 +2,5 @@ use Rattle.std.proofs.Common.{◌≡◌, ◌*◌, length, take, drop, sym, refl,
 use Rattle.taking.specs.Bytes.{same_bytes}
 use Rattle.fm.proofs.pieces.is_segment.Goals as goal
 
-pub is-equal-requires : goal.is-equal-requires
-is-equal-requires c = omega (arith, ap length c.segment.ensures, length-take 4 (drop (4 * c.args.i) c.args.bytes.now), length-drop (4 * c.args.i) c.args.bytes.now)
+pub is_equal-requires : goal.is_equal-requires
+is_equal-requires c = omega (arith, ap length c.segment.ensures, length-take 4 (drop (4 * c.args.i) c.args.bytes.now), length-drop (4 * c.args.i) c.args.bytes.now)

@@ -7,6 +7,6 @@ use Rattle.fm.proofs.pieces.put_in.Goals as goal
 pub returns : goal.returns
 returns c =
     let n = c.args.piece.now.number in
-    let long : length c.copy-from-slice.new.self ≡ 4 = omega (arith, c.copy-from-slice.ensures.len, c.args.piece.now.small, length-take ((4 * c.args.piece.now.number + 4) - 4 * c.args.piece.now.number) (drop (4 * c.args.piece.now.number) c.args.bytes.now), length-drop (4 * c.args.piece.now.number) c.args.bytes.now) in
-    put_is c.args.held.now c.args.bytes.now c.copy-from-slice.new.self c.args.piece.now.number ((4 * c.args.piece.now.number + 4) - 4 * c.args.piece.now.number) c.told-held c.told-bytes long c.args.piece.now.small (omega arith)
-    ∙ ap (λ x. put_segment (fm_held c.args.held.now c.args.bytes.now) (record { number = c.args.piece.now.number; segment = x })) c.copy-from-slice.ensures.after
+    let long : length c.copy_from_slice.new.self ≡ 4 = omega (arith, c.copy_from_slice.ensures.len, c.args.piece.now.small, length-take ((4 * c.args.piece.now.number + 4) - 4 * c.args.piece.now.number) (drop (4 * c.args.piece.now.number) c.args.bytes.now), length-drop (4 * c.args.piece.now.number) c.args.bytes.now) in
+    put_is c.args.held.now c.args.bytes.now c.copy_from_slice.new.self c.args.piece.now.number ((4 * c.args.piece.now.number + 4) - 4 * c.args.piece.now.number) c.told-held c.told-bytes long c.args.piece.now.small (omega arith)
+    ∙ ap (λ x. put_segment (fm_held c.args.held.now c.args.bytes.now) (record { number = c.args.piece.now.number; segment = x })) c.copy_from_slice.ensures.after

@@ -20,7 +20,7 @@ returns-in-Some c =
 
 pub loop-i-preserved : goal.loop-i-preserved
 loop-i-preserved c =
-    read_more c.args.held.now c.args.bytes.now c.loop-i.i c.loop-i-test.true c.loop-i.invariant c.if-not-held-i.false (ap has_return (sym c.segment.ensures) ∙ c.in-default.ensures)
+    read_more c.args.held.now c.args.bytes.now c.loop-i.i c.loop-i-test.true c.loop-i.invariant c.if-not-held-i.false (ap has_return (sym c.segment.ensures) ∙ c.in_default.ensures)
 
 pub returns : goal.returns
 returns c = record { text = read_all c.args.held.now c.args.bytes.now c.loop-i.i (omega arith) c.loop-i.invariant; short = omega arith }

@@ -6,4 +6,4 @@ pub returns-then-fraction-eq0 : goal.returns-then-fraction-eq0
 returns-then-fraction-eq0 c = omega (arith, get_or_past c.args.fraction.now 0 48 (omega arith))
 
 pub returns : goal.returns
-returns c = c.saturating-sub.ensures ∙ ap (λ x. x - 48) (get_or_default c.args.fraction.now 0 0 48 (omega arith))
+returns c = c.saturating_sub.ensures ∙ ap (λ x. x - 48) (get_or_default c.args.fraction.now 0 0 48 (omega arith))

@@ -4,11 +4,11 @@ use Rattle.programme.specs.Numerals.{is_digit}
 use Rattle.programme.proofs.digits.digits.Goals as goal
 
 pub loop-n-preserved : goal.loop-n-preserved
-loop-n-preserved c = let e = prefix_len-drop_yes is_digit c.args.s.now c.loop-n.n 0 c.loop-n-test.true (sym c.if-is-digit.ensures) in
+loop-n-preserved c = let e = prefix_len-drop_yes is_digit c.args.s.now c.loop-n.n 0 c.loop-n-test.true (sym c.if-is_digit.ensures) in
     (omega arith, omega arith)
 
-pub returns-else-is-digit : goal.returns-else-is-digit
-returns-else-is-digit c = let e = prefix_len-drop_no is_digit c.args.s.now c.loop-n.n 0 c.loop-n-test.true (sym c.if-is-digit.ensures) in
+pub returns-else-is_digit : goal.returns-else-is_digit
+returns-else-is_digit c = let e = prefix_len-drop_no is_digit c.args.s.now c.loop-n.n 0 c.loop-n-test.true (sym c.if-is_digit.ensures) in
     record { value = omega arith; within = omega arith }
 
 pub returns-after-loop-n : goal.returns-after-loop-n

@@ -12,4 +12,4 @@ parted s time metres n e p q =
 pub returns : goal.returns
 returns c =
     c.reading.ensures
-    ∙ parted c.args.s.now _ _ c.separator-n.result c.separator-n.ensures.value c.field-in.ensures (c.field-in-2.ensures ∙ ap field c.from.ensures)
+    ∙ parted c.args.s.now _ _ c.separator-n.result c.separator-n.ensures.value c.field_in.ensures (c.field_in-2.ensures ∙ ap field c.from.ensures)

@@ -5,4 +5,4 @@ use Rattle.programme.proofs.rows.trim.Goals as goal
 
 pub returns : goal.returns
 returns c =
-    c.trim-end.ensures ∙ ap trim_end (take_rest c.args.s.now c.spaces.result ∙ ap (λ k. drop k c.args.s.now) c.spaces.ensures.value)
+    c.trim_end.ensures ∙ ap trim_end (take_rest c.args.s.now c.spaces.result ∙ ap (λ k. drop k c.args.s.now) c.spaces.ensures.value)

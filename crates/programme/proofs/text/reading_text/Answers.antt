@@ -15,7 +15,7 @@ shown t k a b d e = ap (λ n. take (4 - n) (drop n (a ∷ (b ∷ (46 ∷ (d ∷ 
 pub returns : goal.returns
 returns c =
     let t = c.args.tenths in
-    let sill = pushed _ c.in-ok-text.ensures.items c.in-ok-extend-from-slice.was c.extend-from-slice.ensures.items in
+    let sill = pushed _ c.in_ok-text.ensures.items c.in_ok-extend_from_slice.was c.extend_from_slice.ensures.items in
     pushed (codes " m")
-    (sill ∙ ap (λ x. codes "Sill " ++ x) (shown t c.left-out.result (48 + t / 100) (48 + t / 10 % 10) (48 + t % 10) c.left-out.ensures))
-    c.in-ok-extend-from-slice-2.was c.extend-from-slice-2.ensures.items
+    (sill ∙ ap (λ x. codes "Sill " ++ x) (shown t c.left_out.result (48 + t / 100) (48 + t / 10 % 10) (48 + t % 10) c.left_out.ensures))
+    c.in_ok-extend_from_slice-2.was c.extend_from_slice-2.ensures.items

@@ -5,5 +5,5 @@ use Rattle.programme.proofs.text.song.Goals as goal
 pub returns : goal.returns
 returns c = record {
   label = search rules;
-  marks = song_marks c.args.title.now c.args.artist.now _ _ (omega arith) (omega arith) c.in-ok-text.ensures c.in-ok-tags.ensures.items;
+  marks = song_marks c.args.title.now c.args.artist.now _ _ (omega arith) (omega arith) c.in_ok-text.ensures c.in_ok-tags.ensures.items;
 }

@@ -6,6 +6,6 @@ pub returns : goal.returns
 returns c =
     pushed c.args.artist.now
     (pushed (codes "\" by ")
-    (pushed c.args.title.now c.in-ok-text.ensures.items c.in-ok-extend-from-slice.was c.extend-from-slice.ensures.items)
-    c.in-ok-extend-from-slice-2.was c.extend-from-slice-2.ensures.items)
-    c.in-ok-extend-from-slice-3.was c.extend-from-slice-3.ensures.items
+    (pushed c.args.title.now c.in_ok-text.ensures.items c.in_ok-extend_from_slice.was c.extend_from_slice.ensures.items)
+    c.in_ok-extend_from_slice-2.was c.extend_from_slice-2.ensures.items)
+    c.in_ok-extend_from_slice-3.was c.extend_from_slice-3.ensures.items

@@ -4,6 +4,6 @@ use Rattle.script.proofs.hex.push_byte.Goals as goal
 
 pub returns : goal.returns
 returns c =
-    c.in-ok-push-digit-2.ensures
-    ∙ ap (λ (x : List ℕ). x ++ (lower_digit (c.args.b % 16) ∷ [])) c.in-ok-push-digit.ensures
+    c.in_ok-push_digit-2.ensures
+    ∙ ap (λ (x : List ℕ). x ++ (lower_digit (c.args.b % 16) ∷ [])) c.in_ok-push_digit.ensures
     ∙ append_assoc (string_bytes c.args.line.now) (lower_digit (c.args.b / 16) ∷ []) (lower_digit (c.args.b % 16) ∷ [])

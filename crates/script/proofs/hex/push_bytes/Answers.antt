@@ -5,7 +5,7 @@ use Rattle.script.proofs.hex.push_bytes.Goals as goal
 
 pub loop-b-preserved : goal.loop-b-preserved
 loop-b-preserved c =
-    c.in-ok-push-byte.ensures
+    c.in_ok-push_byte.ensures
     ∙ ap (λ (x : List ℕ). x ++ hex_pair (get_or c.args.bytes.now c.loop-b.b-index 0)) c.loop-b.invariant
     ∙ flat_map_more hex_pair (string_bytes c.args.line.now) _ _
     ∙ ap (λ (x : List ℕ). string_bytes c.args.line.now ++ hex_of x) (sym (take_more c.args.bytes.now c.loop-b.b-index 0 c.loop-b-test.true))

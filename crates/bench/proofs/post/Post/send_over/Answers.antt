@@ -16,10 +16,10 @@ returns g c =
     let o = sealed_outline c.args.label.now in
     let text = c.args.text.now in
     let n = m.writing.count o in
-    let handed : c.as-mut-slice.result.now ≡ fresh c.args.size = c.as-mut-slice.ensures.value ∙ c.in-ok-space.ensures in
-    let long : length c.send-call.new.buf ≡ c.in-ok-space.space.len = omega (arith, c.send-call.auto.buf, c.as-mut-slice.ensures.len) in
+    let handed : c.as_mut_slice.result.now ≡ fresh c.args.size = c.as_mut_slice.ensures.value ∙ c.in_ok-space.ensures in
+    let long : length c.send-call.new.buf ≡ c.in_ok-space.space.len = omega (arith, c.send-call.auto.buf, c.as_mut_slice.ensures.len) in
     let said = c.send-call.ensures.reply ∙ ap (λ (b : List ℕ). done (send_refusal m.writing o text (length b)) n) handed in
-    let shown = with_items_is c.in-ok-space.space c.send-call.new.buf long
+    let shown = with_items_is c.in_ok-space.space c.send-call.new.buf long
     ∙ c.send-call.ensures.buffer
     ∙ ap (λ (b : List ℕ). left (send_refusal m.writing o text (length b)) (places (m.writing.frame (label_of o p.vars.item text) p.vars.toggle p.service) n ++ drop (21 * n) b) b) handed in
     let left_so = c.send-call.ensures.vars

@@ -3,4 +3,4 @@ use Rattle.display.proofs.RowSteps.{deleted_row}
 use Rattle.display.proofs.table.ClassTable.rule_2.Goals as goal
 
 pub returns : goal.returns
-returns c = λ k. deleted_row (label_in c.args.label.now) c.args.self.now.rows c.args.self.now.lens c.delete-all.new.lens k c.requires (c.delete-all.ensures k)
+returns c = λ k. deleted_row (label_in c.args.label.now) c.args.self.now.rows c.args.self.now.lens c.delete_all.new.lens k c.requires (c.delete_all.ensures k)

@@ -13,20 +13,17 @@ has_room d t l r = let k = (accepted d.len (take d.count d.tags) t r).room in om
 pub bounds-self-at : goal.bounds-self-at
 bounds-self-at c = omega (arith, has_room c.args.self.now c.args.tag (omega arith) c.requires)
 
-pub invariant-of-self : goal.invariant-of-self
-invariant-of-self c =
+pub invariant_of-self : goal.invariant_of-self
+invariant_of-self c =
     let d = c.args.self.now in
     let t = c.args.tag in
-    let l = has_room d t (omega arith) c.requires in (
-      d.some,
-      (
-        d.short,
-        (
-          omega (arith, l),
-          (ap (sealable d.len) (take_more_set d.tags d.count t l) ∙ sealable_push d.len (take d.count d.tags) t d.right c.requires, tt),
-        ),
-      ),
-    )
+    let l = has_room d t (omega arith) c.requires in
+    record {
+      some = d.some;
+      short = d.short;
+      few = omega (arith, l);
+      right = ap (sealable d.len) (take_more_set d.tags d.count t l) ∙ sealable_push d.len (take d.count d.tags) t d.right c.requires;
+    }
 
 pub returns : goal.returns
 returns c =

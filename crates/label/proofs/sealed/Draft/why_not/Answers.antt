@@ -6,4 +6,4 @@ pub returns : goal.returns
 returns c =
     let d = c.args.self.now in
     let z : d.count - 0 ≡ d.count = omega arith in
-    record { value = c.why-not-tag.ensures.value ∙ ap (λ k. tagging_refusal (record { len = d.len; tags = take k d.tags }) c.args.tag) z; own = c.why-not-tag.ensures.own }
+    record { value = c.why_not_tag.ensures.value ∙ ap (λ k. tagging_refusal (record { len = d.len; tags = take k d.tags }) c.args.tag) z; own = c.why_not_tag.ensures.own }

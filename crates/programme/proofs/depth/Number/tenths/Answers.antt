@@ -4,11 +4,11 @@ use Rattle.programme.proofs.depth.Number.tenths.Goals as goal
 
 pub returns-then-metres-eq100 : goal.returns-then-metres-eq100
 returns-then-metres-eq100 c =
-    too_deep c.args.self.whole.now c.args.self.fraction.now _ c.requires c.up-to-100-metres.ensures c.if-metres-eq100.true
+    too_deep c.args.self.whole.now c.args.self.fraction.now _ c.requires c.up_to_100-metres.ensures c.if-metres-eq100.true
 
-pub overflow-add-result : goal.overflow-add-result
-overflow-add-result c = omega (arith, tenth_lt c.args.self.fraction.now c.requires)
+pub overflow_add-result : goal.overflow_add-result
+overflow_add-result c = omega (arith, tenth_lt c.args.self.fraction.now c.requires)
 
 pub returns : goal.returns
 returns c =
-    measured c.args.self.whole.now c.args.self.fraction.now _ _ c.requires c.up-to-100-metres.ensures c.if-metres-eq100.false c.tenth.ensures
+    measured c.args.self.whole.now c.args.self.fraction.now _ _ c.requires c.up_to_100-metres.ensures c.if-metres-eq100.false c.tenth.ensures

@@ -6,8 +6,8 @@ use Rattle.label.proofs.Sounding.{sealable_sounding}
 use Rattle.taking.specs.Views.{tags_of}
 use Rattle.taking.proofs.arrived.Arrived.tell.Goals as goal
 
-pub invariant-of-result : goal.invariant-of-result
-invariant-of-result c =
+pub invariant_of-result : goal.invariant_of-result
+invariant_of-result c =
     let ts = (tags_of c.args.self.now).tags in
     let e = c.sounded-count.ensures.tags in
     let few : length (sounding ts) ≤ 4 = omega (arith, ap length e, length-take c.sounded-count.result.count c.sounded-count.result.tags, c.sounded-count.result.few) in
