@@ -3,7 +3,6 @@ use Rattle.std.proofs.Common.{◌≡◌, ℕ, ◌≤◌, Bool, true, false, cond
 use mathlib.Core.List.{reverse_aux}
 use mathlib.Core.Bool.{beq}
 use Rattle.std.proofs.lemmas.List.{reverse-append, reverse-reverse, length-reverse}
-use Rattle.label.specs.declared.tag.ItemBits.{ItemBits}
 use Rattle.label.specs.Classes.{item_class}
 use Rattle.label.specs.Label.{Label, marked, is_deletion, item_deletion}
 use Rattle.label.specs.Tags.{deletion}
@@ -38,15 +37,15 @@ held_of : Bool → ℕ → List Label → List ℕ
 held_of b c ns = last_part c (cond b (counted_of (row_of ns)) ns)
 
 -- the rules, latest first
-last_of : List Label → Option ItemBits
-last_of [] = None
-last_of (l ∷ ns) = Some l.item
+toggle_of : List Label → Option Bool
+toggle_of [] = None
+toggle_of (l ∷ ns) = Some l.item.toggle
 
 table_of : List Label → Table
 table_of [] = empty
 table_of (l ∷ ns) = on_label (table_of ns) l
 
-rules : Bool → Option ItemBits → Label → ℕ → List ℕ → List ℕ
+rules : Bool → Option Bool → Label → ℕ → List ℕ → List ℕ
 rules b last l c old =
     stored (marked l c) (not b || l.item.running) (emptied (is_deletion (marked l c) || b && item_deletion l) (emptied (b && breaks last l.item) old))
 
@@ -55,10 +54,10 @@ unfolding on_labels table_of
 tables_from [] ns = refl
 tables_from (l ∷ ls) ns = tables_from ls (l ∷ ns)
 
-table_last : (ns : List Label) → (table_of ns).last ≡ last_of ns
-unfolding table_of last_of
-table_last [] = refl
-table_last (l ∷ ns) = refl
+table_toggle : (ns : List Label) → (table_of ns).toggle ≡ toggle_of ns
+unfolding table_of toggle_of
+table_toggle [] = refl
+table_toggle (l ∷ ns) = refl
 
 -- one label, over its marks and bits alone
 nil_stays : (b : Bool) → ◌≡◌ {A = List ℕ} (cond b [] []) []
@@ -120,22 +119,22 @@ module _ (c : ℕ) where
   on_breaks true k old h = refl
   on_breaks false k old h = absurd (let z : ◌≡◌ {A = ℕ} 0 1 = cc in omega arith)
 
-  off_row : (l : Label) (ns : List Label) → l.item.running ≡ false → emptied (breaks (last_of ns) l.item) (held_of true c ns) ≡ []
-  unfolding last_of
+  off_row : (l : Label) (ns : List Label) → l.item.running ≡ false → emptied (breaks (toggle_of ns) l.item) (held_of true c ns) ≡ []
+  unfolding toggle_of
   off_row l [] h = refl
   off_row l (x ∷ xs) h = off_breaks l.item.running (not (beq l.item.toggle x.item.toggle)) (held_of true c (x ∷ xs)) h
 
-  on_row : (l : Label) (ns : List Label) → l.item.running ≡ true → emptied (breaks (last_of ns) l.item) (held_of true c ns) ≡ last_part c (counted_of (row_with l.item.toggle ns))
-  unfolding last_of held_of row_of row_with counted_of last_part
+  on_row : (l : Label) (ns : List Label) → l.item.running ≡ true → emptied (breaks (toggle_of ns) l.item) (held_of true c ns) ≡ last_part c (counted_of (row_with l.item.toggle ns))
+  unfolding toggle_of held_of row_of row_with counted_of last_part
   on_row l [] h = refl
   on_row l (x ∷ xs) h =
       on_breaks l.item.running (not (beq l.item.toggle x.item.toggle)) (held_of true c (x ∷ xs)) h
       ∙ row_before x xs l.item.toggle x.item.toggle
 
-  held_step : (b : Bool) (l : Label) (ns : List Label) → rules b (last_of ns) l c (held_of b c ns) ≡ held_of b c (l ∷ ns)
+  held_step : (b : Bool) (l : Label) (ns : List Label) → rules b (toggle_of ns) l c (held_of b c ns) ≡ held_of b c (l ∷ ns)
   unfolding rules held_of row_of row_with last_part
   held_step true l ns =
-      item_step l.item.running (marked l c) (item_deletion l) (breaks (last_of ns) l.item) (held_of true c ns) (last_part c (counted_of (row_with l.item.toggle ns))) (off_row l ns) (on_row l ns)
+      item_step l.item.running (marked l c) (item_deletion l) (breaks (toggle_of ns) l.item) (held_of true c ns) (last_part c (counted_of (row_with l.item.toggle ns))) (off_row l ns) (on_row l ns)
       ∙ sym (item_row l l.item.running (beq l.item.toggle l.item.toggle) (row_with l.item.toggle ns) (beq_self l.item.toggle))
   held_step false l ns = running_step (marked l c) false (last_part c ns)
 
@@ -147,8 +146,8 @@ module _ (c : ℕ) where
       none true = refl
       none false = refl
   row_held (l ∷ ns) =
-      ap (λ t. by_rules t l c ((table_of ns).row c)) (table_last ns)
-      ∙ ap (by_rules (last_of ns) l c) (row_held ns)
+      ap (λ t. by_rules t l c ((table_of ns).row c)) (table_toggle ns)
+      ∙ ap (by_rules (toggle_of ns) l c) (row_held ns)
       ∙ held_step (item_class c) l ns
 
 rows_held : (ls : List Label) (c : ℕ) → (on_labels empty ls).row c ≡ held_of (item_class c) c (reverse ls)

@@ -45,8 +45,8 @@ on_same d x l q s =
     let same = same_marks x l q s in
     let del = deletes_same x l same item_classes in
     λ i. record {
-      row = λ c. stored (same c i) (not (item_class c) || (s.item i).running) (emptied (is_deletion (same c i) || item_class c && del i) (emptied (item_class c && breaks d.last (s.item i)) (d.row c)));
-      last = Some (s.item i);
+      row = λ c. stored (same c i) (not (item_class c) || (s.item i).running) (emptied (is_deletion (same c i) || item_class c && del i) (emptied (item_class c && breaks d.toggle (s.item i)) (d.row c)));
+      toggle = Some (s.item i).toggle;
     }
 
 module _ {S : Type 0} (m : Meaning S) where
@@ -176,7 +176,7 @@ module _ (c : ℕ) where
 
   whole_label : (ls : List Label) (l : Label) (d : Table) → Whole c ls (d.row c) → Whole c (ls ++ (l ∷ [])) ((on_label d l).row c)
   whole_label ls l d w =
-      let first = item_class c && breaks d.last l.item in
+      let first = item_class c && breaks d.toggle l.item in
       let second = is_deletion (marked l c) || item_class c && item_deletion l in
       whole_stored ls l (marked l c) (not (item_class c) || l.item.running) (emptied second (emptied first (d.row c))) refl
       (whole_emptied ls second (emptied first (d.row c)) (whole_emptied ls first (d.row c) w))

@@ -6,29 +6,24 @@ use Rattle.label.specs.Classes.{item_class}
 use Rattle.label.specs.Label.{Label, marked, is_deletion, item_deletion}
 use Rattle.label.specs.Tags.{deletion}
 
--- what a display holds: for each class a text, empty for nothing, and the item bits of the last complete label
+-- what a display holds: for each class a text, empty for nothing, and the item toggle of the last complete label
 pub record Table : Type 0 where
   pub row : ℕ → List ℕ
-  pub last : Option ItemBits
+  pub toggle : Option Bool
 
 abbrev pub empty : Table
-empty = record { row = λ c. []; last = None }
+empty = record { row = λ c. []; toggle = None }
 
 abbrev pub emptied : Bool → List ℕ → List ℕ
 emptied b old = cond b [] old
 
--- the running bit of the last complete label, 0 before any
-abbrev pub runs_in : Option ItemBits → Bool
-runs_in None = false
-runs_in (Some i) = i.running
-
 -- running is 0, or the toggle is not that of the last complete label
-abbrev pub breaks : Option ItemBits → ItemBits → Bool
+abbrev pub breaks : Option Bool → ItemBits → Bool
 breaks None i = true
-breaks (Some j) i = not i.running || not (beq i.toggle j.toggle)
+breaks (Some t) i = not i.running || not (beq i.toggle t)
 
 -- 1. then all Item classes are emptied
-abbrev pub rule_1 : Option ItemBits → Label → ℕ → List ℕ → List ℕ
+abbrev pub rule_1 : Option Bool → Label → ℕ → List ℕ → List ℕ
 rule_1 last l c old = emptied (item_class c && breaks last l.item) old
 
 -- 2. deletions empty their class; one in Item empties all Item classes
@@ -43,11 +38,11 @@ stored (Some p) may old = cond (not (deletion p) && may) p old
 abbrev pub rule_3 : Label → ℕ → List ℕ → List ℕ
 rule_3 l c old = stored (marked l c) (not (item_class c) || l.item.running) old
 
-abbrev pub by_rules : Option ItemBits → Label → ℕ → List ℕ → List ℕ
+abbrev pub by_rules : Option Bool → Label → ℕ → List ℕ → List ℕ
 by_rules last l c old = rule_3 l c (rule_2 l c (rule_1 last l c old))
 
 abbrev pub on_label : Table → Label → Table
-on_label d l = record { row = λ c. by_rules d.last l c (d.row c); last = Some l.item }
+on_label d l = record { row = λ c. by_rules d.toggle l c (d.row c); toggle = Some l.item.toggle }
 
 -- after the labels, one after another
 unfoldable pub on_labels : Table → List Label → Table

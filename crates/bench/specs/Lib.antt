@@ -1,4 +1,4 @@
 pub mod Carriers
-pub mod Held
-pub mod Posts
+pub mod Digits
+pub mod Lines
 pub mod State

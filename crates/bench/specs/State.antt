@@ -7,24 +7,27 @@ use Rattle.label.specs.declared.refusal.Refusal.{Refusal}
 use Rattle.carrier.specs.Writing.{place, write_refusal}
 use Rattle.bench.specs.Carriers.{writing_of, no_item}
 use Rattle.bench.specs.declared.carriers.Named.{Named}
-use Rattle.bench.specs.declared.carriers.Named.TheVariants.{Fm, Dab}
 use Rattle.bench.specs.declared.carriers.Wanted.{Wanted}
 use Rattle.bench.specs.declared.command.Command.{Command}
-use Rattle.bench.specs.declared.command.Command.TheVariants.{Open, Tag as AddTag, Seal, Reopen, Fits as AskFits, Count as AskCount, Write, At}
-use Rattle.bench.specs.declared.command.Order.{Order}
+use Rattle.bench.specs.declared.command.Command.TheVariants.{Open, Tag as AddTag, Seal, Reopen, Fits as AskFits, Count as AskCount, Write}
 use Rattle.bench.specs.declared.command.Writing.{Writing}
-use Rattle.script.specs.declared.fault.Fault.{Fault}
-use Rattle.script.specs.declared.fault.Fault.TheVariants.{Wrong, Memory}
-use Rattle.script.specs.declared.reply.Reply.{Reply}
-use Rattle.script.specs.declared.reply.Reply.TheVariants.{Call, Fits, Count}
-use Rattle.script.specs.Lines.{call_line, with_buffer, reply_line}
-use Rattle.fm.specs.Taking.{FmState, fm}
-use Rattle.fm.specs.Views.{fm_view}
-use Rattle.dab.specs.Taking.{State, dab}
-use Rattle.dab.specs.Held.{dab_state}
-use Rattle.bench.specs.declared.state.Bench.{Bench}
-use Rattle.bench.specs.Held.{Held, held, nothing, drafted, closed, fresh}
-use Rattle.bench.specs.Posts.{PostState, post_of, new_post, PostObeys}
+use Rattle.bench.specs.declared.fault.Fault.{Fault}
+use Rattle.bench.specs.declared.fault.Fault.TheVariants.{Wrong, Memory}
+use Rattle.bench.specs.declared.reply.Reply.{Reply}
+use Rattle.bench.specs.declared.reply.Reply.TheVariants.{Call, Fits, Count, Written}
+use Rattle.bench.specs.declared.state.Current.{Current}
+use Rattle.bench.specs.declared.state.Current.TheVariants.{Nothing, Drafted, Closed}
+
+-- the label on the bench: none, a draft or a sealed label, with its text
+pub data Held : Type 0 where
+  nothing : Held
+  drafted : Outline → List ℕ → Held
+  closed : Outline → List ℕ → Held
+
+abbrev pub held : Current → Held
+held Nothing = nothing
+held (Drafted d t) = drafted (draft_outline d) (vec_items t)
+held (Closed s t) = closed (sealed_outline s) (vec_items t)
 
 -- open: a draft over the text, or the label as it was
 abbrev pub opened : Held → List ℕ → Held
@@ -74,6 +77,10 @@ count_reply nothing c = Err Wrong
 count_reply (drafted o text) c = Err Wrong
 count_reply (closed o text) c = cond ((writing_of c).fits o) (Ok (Count ((writing_of c).count o))) (Err Wrong)
 
+-- a buffer as a call is handed it: 0xEE throughout
+abbrev pub fresh : ℕ → List ℕ
+fresh n = replicate n 0xEE
+
 -- why a frame is not written into a fresh buffer
 abbrev pub why_not_written : Named → Outline → List ℕ → Wanted → ℕ → Option Refusal
 why_not_written c o text f size = write_refusal (writing_of c) o text f.number (length (fresh size))
@@ -85,9 +92,16 @@ buffer_after c o text f size =
     (place ((writing_of c).frame (label_of o no_item text) f.toggle f.service f.number) ++ drop 21 (fresh size))
     (fresh size)
 
--- the reply of a frame that is written over a text: what came of the call, and the buffer whole; only memory can fail
+-- the reply says what came of the call, and shows the buffer whole
+abbrev pub Shows : Reply → Result (Unit {0}) Refusal → List ℕ → Type 0
+Shows (Call x) call bytes = ⊥
+Shows (Fits x) call bytes = ⊥
+Shows (Count x) call bytes = ⊥
+Shows (Written x v) call bytes = (x ≡ call) × (vec_items v ≡ bytes)
+
+-- the reply of a frame that is written over a text; only memory can fail
 abbrev pub Writes : Named → Outline → List ℕ → Wanted → ℕ → Result Reply Fault → Type 0
-Writes c o text f size r = MatchResult r (λ x. reply_line x ≡ with_buffer (call_line (done (why_not_written c o text f size) tt)) (buffer_after c o text f size)) (λ e. e ≡ Memory)
+Writes c o text f size r = MatchResult r (λ x. Shows x (done (why_not_written c o text f size) tt) (buffer_after c o text f size)) (λ e. e ≡ Memory)
 
 -- the text over which a label is written: its own, unless another is given
 abbrev pub text_for : Writing → List ℕ → List ℕ
@@ -99,33 +113,12 @@ WriteReply nothing w r = r ≡ Err Wrong
 WriteReply (drafted o text) w r = r ≡ Err Wrong
 WriteReply (closed o text) w r = Writes w.carrier o (text_for w text) w.frame w.size r
 
--- what the console holds: the label, and for each carrier a station and a display
-pub record BenchState : Type 0 where
-  pub label : Held
-  pub fm : PostState FmState
-  pub dab : PostState State
-
-abbrev pub bench_of : Bench → BenchState
-bench_of b = record { label = held b.label; fm = post_of fm_view b.fm; dab = post_of dab_state b.dab }
-
-abbrev pub new_bench : BenchState
-new_bench = record { label = nothing; fm = new_post fm; dab = new_post dab }
-
-abbrev pub with_label : BenchState → Held → BenchState
-with_label s h = record { label = h; fm = s.fm; dab = s.dab }
-
--- an order is for one carrier's post, and leaves all else
-abbrev pub OrderObeys : BenchState → Named → Order → Result Reply Fault → BenchState → Type 0
-OrderObeys s Fm o r t = PostObeys fm s.label o s.fm r t.fm × (t.dab ≡ s.dab) × (t.label ≡ s.label)
-OrderObeys s Dab o r t = PostObeys dab s.label o s.dab r t.dab × (t.fm ≡ s.fm) × (t.label ≡ s.label)
-
--- what a command answers, and what the console holds after it
-abbrev pub Obeys : BenchState → Command → Result Reply Fault → BenchState → Type 0
-Obeys s (Open text) r t = (r ≡ Ok (Call (done (opening_refusal (vec_items text)) tt))) × (t ≡ with_label s (opened s.label (vec_items text)))
-Obeys s (AddTag x) r t = (r ≡ tag_reply s.label x) × (t ≡ with_label s (after_tag s.label x))
-Obeys s Seal r t = (r ≡ seal_reply s.label) × (t ≡ with_label s (after_seal s.label))
-Obeys s Reopen r t = (r ≡ reopen_reply s.label) × (t ≡ with_label s (after_reopen s.label))
-Obeys s (AskFits c) r t = (r ≡ fits_reply s.label c) × (t ≡ s)
-Obeys s (AskCount c) r t = (r ≡ count_reply s.label c) × (t ≡ s)
-Obeys s (Write w) r t = WriteReply s.label w r × (t ≡ s)
-Obeys s (At c o) r t = OrderObeys s c o r t
+-- what a command answers, and what the bench holds after it
+abbrev pub Obeys : Held → Command → Result Reply Fault → Held → Type 0
+Obeys h (Open text) r after = (r ≡ Ok (Call (done (opening_refusal (vec_items text)) tt))) × (after ≡ opened h (vec_items text))
+Obeys h (AddTag t) r after = (r ≡ tag_reply h t) × (after ≡ after_tag h t)
+Obeys h Seal r after = (r ≡ seal_reply h) × (after ≡ after_seal h)
+Obeys h Reopen r after = (r ≡ reopen_reply h) × (after ≡ after_reopen h)
+Obeys h (AskFits c) r after = (r ≡ fits_reply h c) × (after ≡ h)
+Obeys h (AskCount c) r after = (r ≡ count_reply h c) × (after ≡ h)
+Obeys h (Write w) r after = WriteReply h w r × (after ≡ h)

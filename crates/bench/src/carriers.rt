@@ -3,16 +3,16 @@ ghost use Rattle.label.specs.Drafts.{sealed_outline, done, left};
 ghost use Rattle.label.specs.Label.{label_of};
 ghost use Rattle.carrier.specs.Writing.{place, write_refusal};
 ghost use Rattle.bench.specs.Carriers.{writing_of, no_item};
-ghost use Rattle.script.specs.declared.fault.Fault.TheVariants.{Wrong};
-ghost use Rattle.bench.specs.Carriers.{name_of};
+ghost use Rattle.bench.specs.declared.fault.Fault.TheVariants.{Wrong};
+ghost use Rattle.bench.specs.Lines.{name_of};
 
+use crate::fault::Fault;
 use carrier::carrier::Carrier;
 use dab::dab::Dab;
 use fm::fm::Fm;
 use label::refusal::Refusal;
 use label::sealed::Sealed;
 use label::tag::ItemBits;
-use script::fault::Fault;
 
 // The carriers by their names.
 #[derive(Clone, Copy)]

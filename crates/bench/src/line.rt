@@ -1,7 +1,7 @@
 use crate::command::Command;
+use crate::fault::Fault;
+use crate::reply::Reply;
 use crate::state::Bench;
-use script::fault::Fault;
-use script::reply::Reply;
 use std::alloc::{AllocError, Global};
 
 // The longest line.

@@ -1,28 +1,38 @@
-ghost use Rattle.std.specs.Prelude.{◌≡◌};
+ghost use Rattle.std.specs.Prelude.{◌≡◌, IfOk};
 ghost use Rattle.label.specs.Drafts.{sealed_outline, opening_refusal, done};
-ghost use Rattle.script.specs.declared.reply.Reply.TheVariants.{Call};
-ghost use Rattle.bench.specs.Held.{held};
-ghost use Rattle.bench.specs.State.{bench_of, new_bench, with_label, Obeys, opened, tag_reply, after_tag, seal_reply, after_seal, reopen_reply, after_reopen, fits_reply, count_reply, Writes, WriteReply};
+ghost use Rattle.bench.specs.declared.reply.Reply.TheVariants.{Call};
+ghost use Rattle.bench.specs.State.{nothing, held, Obeys, opened, tag_reply, after_tag, seal_reply, after_seal, reopen_reply, after_reopen, fits_reply, count_reply, fresh, Writes, WriteReply};
 
 use crate::carriers::{Named, Wanted};
 use crate::command::{Command, Writing};
-use crate::current::Current;
-use crate::post::{Post, buffer};
-use carrier::carrier::Carrier;
-use dab::dab::Dab;
-use fm::fm::Fm;
+use crate::fault::Fault;
+use crate::reply::Reply;
 use label::sealed::{Draft, Sealed};
 use label::tag::Tag;
-use script::fault::Fault;
-use script::reply::Reply;
-use std::alloc::Global;
+use std::alloc::{AllocError, Global};
+
+// What a buffer is filled with before a call.
+const FILLING: u8 = 0xEE;
+
+// The label on the bench, with the text over which it was opened.
+#[derive(Drop)]
+pub enum Current {
+    Nothing,
+    Drafted(Draft, Vec<u8>),
+    Closed(Sealed, Vec<u8>),
+}
 
 // The console's state.
 #[derive(Drop)]
 pub struct Bench {
     label: Current,
-    fm: Post<Fm>,
-    dab: Post<Dab>,
+}
+
+// A buffer as calls are handed it.
+fn buffer(heap: Global, size: usize) -> Result<Vec<u8>, AllocError>
+    ensures { IfOk result (λ v. v.items ≡ fresh size) }
+{
+    vec![in heap; FILLING; size]
 }
 
 // One frame, over this text, in a buffer of this size.
@@ -43,18 +53,16 @@ fn write_frame(
 
 impl Bench {
     pub fn new() -> Bench
-        ensures { bench_of result ≡ new_bench }
+        ensures { held result.label ≡ nothing }
     {
         Bench {
             label: Current::Nothing,
-            fm: Post::new(),
-            dab: Post::new(),
         }
     }
 
     // Carries out a command. A fault changes nothing.
     pub fn obey(&mut self, heap: Global, command: Command) -> Result<Reply, Fault>
-        ensures { Obeys (bench_of self.old) command result (bench_of self.new) }
+        ensures { Obeys (held self.old.label) command result (held self.new.label) }
     {
         match command {
             Command::Open(text) => Ok(self.open(text)),
@@ -64,14 +72,12 @@ impl Bench {
             Command::Fits(carrier) => self.fits(carrier),
             Command::Count(carrier) => self.count(carrier),
             Command::Write(writing) => self.write(heap, &writing),
-            Command::At(Named::Fm, order) => self.fm.obey(heap, &self.label, &order),
-            Command::At(Named::Dab, order) => self.dab.obey(heap, &self.label, &order),
         }
     }
 
     fn open(&mut self, text: Vec<u8>) -> Reply
         ensures reply { result ≡ Call (done (opening_refusal text.items) tt) }
-        ensures after { bench_of self.new ≡ with_label (bench_of self.old) (opened (held self.old.label) text.items) }
+        ensures after { held self.new.label ≡ opened (held self.old.label) text.items }
     {
         match Draft::open(text.as_slice()) {
             Ok(draft) => {
@@ -84,7 +90,7 @@ impl Bench {
 
     fn tag(&mut self, tag: Tag) -> Result<Reply, Fault>
         ensures reply { result ≡ tag_reply (held self.old.label) tag }
-        ensures after { bench_of self.new ≡ with_label (bench_of self.old) (after_tag (held self.old.label) tag) }
+        ensures after { held self.new.label ≡ after_tag (held self.old.label) tag }
     {
         match &mut self.label {
             Current::Drafted(draft, _) => Ok(Reply::Call(draft.tag(tag))),
@@ -94,7 +100,7 @@ impl Bench {
 
     fn seal(&mut self) -> Result<Reply, Fault>
         ensures reply { result ≡ seal_reply (held self.old.label) }
-        ensures after { bench_of self.new ≡ with_label (bench_of self.old) (after_seal (held self.old.label)) }
+        ensures after { held self.new.label ≡ after_seal (held self.old.label) }
     {
         match std::mem::replace(&mut self.label, Current::Nothing) {
             Current::Drafted(draft, text) => {
@@ -110,7 +116,7 @@ impl Bench {
 
     fn reopen(&mut self) -> Result<Reply, Fault>
         ensures reply { result ≡ reopen_reply (held self.old.label) }
-        ensures after { bench_of self.new ≡ with_label (bench_of self.old) (after_reopen (held self.old.label)) }
+        ensures after { held self.new.label ≡ after_reopen (held self.old.label) }
     {
         match std::mem::replace(&mut self.label, Current::Nothing) {
             Current::Closed(label, text) => {

@@ -1,6 +1,4 @@
 // The console: each line of standard input is answered by a line on standard output.
-#![tactic(auto)]
-
 use bench::state::Bench;
 use std::io;
 use std::io::{BufRead, BufReader, Write};

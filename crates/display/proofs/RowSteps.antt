@@ -132,7 +132,7 @@ stored_row l k old x p e = e ∙ inside (cases_lt k 64) ∙ kept l k old d
     inside (inr h) = ap (λ t. cond t new old) (le-ltb k 64 h) ∙ sym (beyond l.text l.item.running l.tags k old d h)
 
 -- a label with running 0 leaves nothing in Item
-pub idle : (last : Option ItemBits) (l : Label) (k : ℕ) (old : List ℕ) → item_class k ≡ true → l.item.running ≡ false → by_rules last l k old ≡ []
+pub idle : (last : Option Bool) (l : Label) (k : ℕ) (old : List ℕ) → item_class k ≡ true → l.item.running ≡ false → by_rules last l k old ≡ []
 idle last l k old i r = ap (λ b. stored (marked l k) (not b || l.item.running) second) i ∙ ap (λ b. stored (marked l k) b second) r ∙ not_stored (marked l k) ∙ emptied_nil
   where
     second : List ℕ
@@ -146,9 +146,9 @@ idle last l k old i r = ap (λ b. stored (marked l k) (not b || l.item.running) 
         and_false true = refl
         and_false false = refl
 
-    breaking : (o : Option ItemBits) → breaks o l.item ≡ true
+    breaking : (o : Option Bool) → breaks o l.item ≡ true
     breaking None = refl
-    breaking (Some j) = ap (λ b. not b || not (beq l.item.toggle j.toggle)) r
+    breaking (Some j) = ap (λ b. not b || not (beq l.item.toggle j)) r
 
     nil : (b : Bool) → emptied b [] ≡ []
     nil true = refl
@@ -162,9 +162,9 @@ idle last l k old i r = ap (λ b. stored (marked l k) (not b || l.item.running) 
 
 -- the table after the rules on the complete label
 pub table_told : (d : Table) (o : Option Label) (row : ℕ → List ℕ) (text : List ℕ) (tags : List Tag) (item : ItemBits) → is_some o ≡ true → text ≡ told_text o → tags ≡ told_tags o → item ≡ told_item o
-    → ((k : ℕ) → row k ≡ by_rules d.last (record { text = text; tags = tags; item = item }) k (d.row k))
-    → ◌≡◌ {A = Table} (record { row = row; last = Some item }) (on_told d o)
+    → ((k : ℕ) → row k ≡ by_rules d.toggle (record { text = text; tags = tags; item = item }) k (d.row k))
+    → ◌≡◌ {A = Table} (record { row = row; toggle = Some item.toggle }) (on_told d o)
 table_told d None row text tags item s a b e h = absurd (let z : ◌≡◌ {A = ℕ} 0 1 = cc in omega arith)
 table_told d (Some l) row text tags item s a b e h =
-    let first : ◌≡◌ {A = Table} (record { row = row; last = Some item }) (on_label d (record { text = text; tags = tags; item = item })) = λ i. record { row = λ k. h k i; last = Some item } in
+    let first : ◌≡◌ {A = Table} (record { row = row; toggle = Some item.toggle }) (on_label d (record { text = text; tags = tags; item = item })) = λ i. record { row = λ k. h k i; toggle = Some item.toggle } in
     first ∙ (λ i. on_label d (record { text = a i; tags = b i; item = e i }))

@@ -2,6 +2,7 @@ ghost use Rattle.std.specs.Prelude.{◌≡◌, ℕ, ◌≤◌, not, ◌&&◌, �
 ghost use Rattle.label.specs.Classes.{item_class};
 ghost use Rattle.label.specs.Tags.{part, deletion};
 ghost use Rattle.agreement.specs.Rules.{breaks};
+ghost use Rattle.display.specs.Held.{toggle_of};
 ghost use Rattle.display.specs.Passes.{row_of, deletes_for, deleted, stores_for, put_by};
 
 use label::category::Category;
@@ -19,7 +20,7 @@ fn is_item(class: u8) -> bool
 
 // Whether a label with these item bits is not of the item of the last complete label.
 fn is_other_item(last: Option<ItemBits>, item: ItemBits) -> bool
-    ensures { result ≡ breaks last item }
+    ensures { result ≡ breaks (toggle_of last) item }
 {
     match last {
         None => true,
@@ -112,7 +113,7 @@ fn store_tag(
 
 // Empties all Item classes at a label of another item.
 pub(crate) fn clear_other_item(lens: &mut [usize; 64], last: Option<ItemBits>, item: ItemBits)
-    ensures { (k : ℕ) → slice_index lens.new k ≡ (if item_class k && breaks last item then 0 else slice_index lens.old k) }
+    ensures { (k : ℕ) → slice_index lens.new k ≡ (if item_class k && breaks (toggle_of last) item then 0 else slice_index lens.old k) }
 {
     if is_other_item(last, item) {
         clear_items(lens);

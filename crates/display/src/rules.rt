@@ -1,7 +1,7 @@
 ghost use Rattle.std.specs.Prelude.{◌≡◌, ℕ, ◌<◌, ◌≤◌, [], length};
 ghost use Rattle.carrier.specs.Meaning.{Plain};
 ghost use Rattle.agreement.specs.Rules.{rule_1, rule_2, rule_3, by_rules};
-ghost use Rattle.display.specs.Held.{held};
+ghost use Rattle.display.specs.Held.{held, toggle_of};
 ghost use Rattle.display.specs.View.{label_in};
 
 use crate::complete::Complete;
@@ -21,7 +21,7 @@ impl ClassTable {
 
     // 1. If running is 0, or the toggle is not that of the last complete label, all Item classes are emptied.
     fn rule_1(&mut self, last: Option<ItemBits>, label: &Complete)
-        ensures { (k : ℕ) → held self.new k ≡ rule_1 last (label_in label.now) k (held self.old k) }
+        ensures { (k : ℕ) → held self.new k ≡ rule_1 (toggle_of last) (label_in label.now) k (held self.old k) }
     {
         clear_other_item(&mut self.lens, last, label.item);
     }
@@ -53,7 +53,7 @@ impl ClassTable {
     pub(crate) fn apply(&mut self, last: Option<ItemBits>, label: &Complete)
         requires plain { Plain (label_in label.now).text (label_in label.now).tags }
         requires short { length (label_in label.now).text ≤ 128 }
-        ensures { (k : ℕ) → held self.new k ≡ by_rules last (label_in label.now) k (held self.old k) }
+        ensures { (k : ℕ) → held self.new k ≡ by_rules (toggle_of last) (label_in label.now) k (held self.old k) }
     {
         self.rule_1(last, label);
         self.rule_2(label);

@@ -17,11 +17,11 @@ use Rattle.script.specs.declared.fault.Fault.TheVariants.{Wrong, Memory}
 use Rattle.script.specs.declared.reply.Reply.{Reply}
 use Rattle.script.specs.declared.reply.Reply.TheVariants.{Call, Taken, Front as Shows}
 use Rattle.front.specs.Reading.{reading_of}
-use Rattle.bench.specs.Held.{Held, nothing, drafted, closed, fresh}
-use Rattle.bench.specs.declared.command.Order.{Order}
-use Rattle.bench.specs.declared.command.Order.TheVariants.{Station, Start, End, Send, Take, Read, Retune, Front}
-use Rattle.bench.specs.declared.command.Sending.{Sending}
-use Rattle.bench.specs.declared.post.Post.{Post}
+use Rattle.bench_posts.specs.Held.{Held, nothing, drafted, closed, fresh}
+use Rattle.bench_posts.specs.declared.command.Order.{Order}
+use Rattle.bench_posts.specs.declared.command.Order.TheVariants.{Station, Start, End, Send, Take, Read, Retune, Front}
+use Rattle.bench_posts.specs.declared.command.Sending.{Sending}
+use Rattle.bench_posts.specs.declared.post.Post.{Post}
 
 pub record PostState (S : Type 0) : Type 0 where
   pub vars : Vars

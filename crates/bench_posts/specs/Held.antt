@@ -2,8 +2,8 @@
 use Rattle.std.specs.Prelude.{ℕ, List, replicate, vec_items}
 use Rattle.label.specs.Drafts.{draft_outline, sealed_outline}
 use Rattle.label.specs.Label.{Outline}
-use Rattle.bench.specs.declared.current.Current.{Current}
-use Rattle.bench.specs.declared.current.Current.TheVariants.{Nothing, Drafted, Closed}
+use Rattle.bench_posts.specs.declared.current.Current.{Current}
+use Rattle.bench_posts.specs.declared.current.Current.TheVariants.{Nothing, Drafted, Closed}
 
 -- the label on the bench: none, a draft or a sealed label, with its text
 pub data Held : Type 0 where

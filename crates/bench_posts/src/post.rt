@@ -1,8 +1,8 @@
 ghost use Rattle.std.specs.Prelude.{◌≡◌, IfOk};
 ghost use Rattle.label.specs.Drafts.{sealed_outline};
 ghost use Rattle.front.specs.Reading.{reading_of};
-ghost use Rattle.bench.specs.Held.{held, fresh};
-ghost use Rattle.bench.specs.Posts.{post_of, new_post, PostObeys, SendReply, Sends, Reads};
+ghost use Rattle.bench_posts.specs.Held.{held, fresh};
+ghost use Rattle.bench_posts.specs.Posts.{post_of, new_post, PostObeys, SendReply, Sends, Reads};
 
 use crate::command::{Order, Sending};
 use crate::current::Current;

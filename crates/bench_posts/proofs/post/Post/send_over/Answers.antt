@@ -5,9 +5,9 @@ use Rattle.label.specs.Label.{label_of}
 use Rattle.agreement.specs.Station.{send_refusal}
 use Rattle.station.specs.Sending.{places}
 use Rattle.script.specs.Lines.{sent_line, with_buffer}
-use Rattle.bench.specs.Held.{fresh}
-use Rattle.bench.specs.Posts.{PostState, post_of, with_vars}
-use Rattle.bench.proofs.post.Post.send_over.Goals as goal
+use Rattle.bench_posts.specs.Held.{fresh}
+use Rattle.bench_posts.specs.Posts.{PostState, post_of, with_vars}
+use Rattle.bench_posts.proofs.post.Post.send_over.Goals as goal
 
 pub returns : goal.returns
 returns g c =

@@ -1,0 +1,4 @@
+pub mod Carriers
+pub mod Held
+pub mod Posts
+pub mod State

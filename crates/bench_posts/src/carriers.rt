@@ -1,0 +1,98 @@
+ghost use Rattle.std.specs.Prelude.{◌≡◌, ◌++◌, length, drop, MatchResult, ◌≢◌};
+ghost use Rattle.label.specs.Drafts.{sealed_outline, done, left};
+ghost use Rattle.label.specs.Label.{label_of};
+ghost use Rattle.carrier.specs.Writing.{place, write_refusal};
+ghost use Rattle.bench_posts.specs.Carriers.{writing_of, no_item};
+ghost use Rattle.script.specs.declared.fault.Fault.TheVariants.{Wrong};
+ghost use Rattle.bench_posts.specs.Carriers.{name_of};
+
+use carrier::carrier::Carrier;
+use dab::dab::Dab;
+use fm::fm::Fm;
+use label::refusal::Refusal;
+use label::sealed::Sealed;
+use label::tag::ItemBits;
+use script::fault::Fault;
+
+// The carriers by their names.
+#[derive(Clone, Copy)]
+pub enum Named {
+    Fm,
+    Dab,
+}
+
+// Which frame of a label is wanted.
+#[derive(Clone, Copy)]
+pub struct Wanted {
+    pub toggle: bool,
+    pub service: u16,
+    pub number: usize,
+}
+
+const NO_ITEM: ItemBits = ItemBits {
+    toggle: false,
+    running: false,
+};
+
+impl Named {
+    pub fn parse(word: &str) -> Result<Named, Fault>
+        ensures { MatchResult result (λ c. word.now ≡ name_of c) (λ e. (e ≡ Wrong) × ((c : Named) → word.now ≢ name_of c)) }
+    {
+        match word {
+            "fm" => Ok(Named::Fm),
+            "dab" => Ok(Named::Dab),
+            _ => Err(Fault::Wrong),
+        }
+    }
+
+    pub fn fits(self, label: &Sealed) -> bool
+        ensures { result ≡ (writing_of self).fits (sealed_outline label.now) }
+    {
+        match self {
+            Named::Fm => Fm::fits(label),
+            Named::Dab => Dab::fits(label),
+        }
+    }
+
+    pub fn count(self, label: &Sealed) -> usize
+        ensures { result ≡ (writing_of self).count (sealed_outline label.now) }
+    {
+        match self {
+            Named::Fm => Fm::count(label),
+            Named::Dab => Dab::count(label),
+        }
+    }
+
+    // Writes a frame with both item bits 0.
+    pub fn write(
+        self,
+        label: &Sealed,
+        text: &[u8],
+        frame: Wanted,
+        space: &mut [u8],
+    ) -> Result<(), Refusal>
+        ensures reply { result ≡ done (write_refusal (writing_of self) (sealed_outline label.now) text.now frame.number (length space.old)) tt }
+        ensures space { space.new ≡ left (write_refusal (writing_of self) (sealed_outline label.now) text.now frame.number (length space.old)) (place ((writing_of self).frame (label_of (sealed_outline label.now) no_item text.now) frame.toggle frame.service frame.number) ++ drop 21 space.old) space.old }
+    {
+        match self {
+            Named::Fm => Fm::write(
+                label,
+                NO_ITEM,
+                text,
+                frame.toggle,
+                frame.service,
+                frame.number,
+                space,
+            ),
+            Named::Dab => Dab::write(
+                label,
+                NO_ITEM,
+                text,
+                frame.toggle,
+                frame.service,
+                frame.number,
+                space,
+            ),
+        }
+    }
+}
