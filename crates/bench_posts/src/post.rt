@@ -35,7 +35,7 @@ pub(crate) fn buffer(heap: Global, size: usize) -> Result<Vec<u8>, AllocError>
 
 impl<C: Carrier + Drop> Post<C> {
     pub fn new() -> Post<C>
-        ensures { post_of state result ≡ new_post meaning }
+        ensures { post_of C.state result ≡ new_post C.meaning }
     {
         Post {
             station: Station::new(0),
@@ -45,7 +45,7 @@ impl<C: Carrier + Drop> Post<C> {
 
     // Carries out an order, with the label that is on the bench. A fault changes nothing.
     pub fn obey(&mut self, heap: Global, label: &Current, order: &Order) -> Result<Reply, Fault>
-        ensures { PostObeys meaning (held label.now) order.now (post_of state self.old) result (post_of state self.new) }
+        ensures { PostObeys C.meaning (held label.now) order.now (post_of C.state self.old) result (post_of C.state self.new) }
     {
         match order {
             Order::Station(service) => {
@@ -66,7 +66,7 @@ impl<C: Carrier + Drop> Post<C> {
     }
 
     fn send(&mut self, heap: Global, label: &Current, sending: &Sending) -> Result<Reply, Fault>
-        ensures { SendReply meaning (held label.now) sending.now (post_of state self.old) result (post_of state self.new) }
+        ensures { SendReply C.meaning (held label.now) sending.now (post_of C.state self.old) result (post_of C.state self.new) }
     {
         let Current::Closed(label, own) = label else {
             return Err(Fault::Wrong);
@@ -86,7 +86,7 @@ impl<C: Carrier + Drop> Post<C> {
         text: &[u8],
         size: usize,
     ) -> Result<Reply, Fault>
-        ensures { Sends meaning (sealed_outline label.now) text.now size (post_of state self.old) result (post_of state self.new) }
+        ensures { Sends C.meaning (sealed_outline label.now) text.now size (post_of C.state self.old) result (post_of C.state self.new) }
     {
         let mut space = buffer(heap, size)?;
         let call = self.station.send(label, text, space.as_mut_slice());
@@ -95,7 +95,7 @@ impl<C: Carrier + Drop> Post<C> {
 
     // What a front shows that reads the display.
     fn front(&self) -> Record
-        ensures { result ≡ reading_of ((post_of state self.now).shown.table.row 56) }
+        ensures { result ≡ reading_of ((post_of C.state self.now).shown.table.row 56) }
     {
         let mut front = Front::new();
         front.read(&self.display);
@@ -103,7 +103,7 @@ impl<C: Carrier + Drop> Post<C> {
     }
 
     fn read(&self, heap: Global, class: u8, size: usize) -> Result<Reply, Fault>
-        ensures { Reads (post_of state self.now) class size result }
+        ensures { Reads (post_of C.state self.now) class size result }
     {
         let mut space = buffer(heap, size)?;
         let call = self.display.read(class, space.as_mut_slice());

@@ -18,7 +18,7 @@ use label::refusal::Refusal;
 impl<C: Carrier> Display<C> {
     // A display that holds nothing.
     pub fn new() -> Self
-        ensures { view state result ≡ new_display meaning }
+        ensures { view C.state result ≡ new_display C.meaning }
     {
         Display {
             carrier: C::new(),
@@ -29,8 +29,8 @@ impl<C: Carrier> Display<C> {
 
     // Takes a frame.
     pub fn take(&mut self, frame: &[u8]) -> Result<Answer, Refusal>
-        ensures reply { result ≡ reply (meaning.step (state self.old.carrier) frame.now) }
-        ensures shown { view state self.new ≡ display_step meaning (view state self.old) frame.now }
+        ensures reply { result ≡ reply (C.meaning.step (C.state self.old.carrier) frame.now) }
+        ensures shown { view C.state self.new ≡ display_step C.meaning (view C.state self.old) frame.now }
     {
         let answer = self.carrier.take(frame)?;
         if let Answer::Complete = answer {
@@ -41,9 +41,9 @@ impl<C: Carrier> Display<C> {
 
     // Applies the rules to the complete label.
     fn show(&mut self)
-        requires { is_some (meaning.told (state self.old.carrier)) ≡ true }
+        requires { is_some (C.meaning.told (C.state self.old.carrier)) ≡ true }
         ensures carrier { self.new.carrier ≡ self.old.carrier }
-        ensures table { (view state self.new).table ≡ on_told (view state self.old).table (meaning.told (state self.old.carrier)) }
+        ensures table { (view C.state self.new).table ≡ on_told (view C.state self.old).table (C.meaning.told (C.state self.old.carrier)) }
     {
         let item = self.carrier.item();
         let label = Complete {
@@ -56,9 +56,9 @@ impl<C: Carrier> Display<C> {
     }
     // Copies what is held for a class to the buffer's start, and returns its length, 0 for nothing.
     pub fn read(&self, class: u8, buf: &mut [u8]) -> Result<usize, Refusal>
-        ensures reply { result ≡ done (read_refusal (view state self.now).table class (length buf.old)) (length ((view state self.now).table.row class)) }
+        ensures reply { result ≡ done (read_refusal (view C.state self.now).table class (length buf.old)) (length ((view C.state self.now).table.row class)) }
         ensures own { Own reading result }
-        ensures buffer { buf.new ≡ left (read_refusal (view state self.now).table class (length buf.old)) ((view state self.now).table.row class ++ drop (length ((view state self.now).table.row class)) buf.old) buf.old }
+        ensures buffer { buf.new ≡ left (read_refusal (view C.state self.now).table class (length buf.old)) ((view C.state self.now).table.row class ++ drop (length ((view C.state self.now).table.row class)) buf.old) buf.old }
     {
         if is_silent(class) {
             return Err(Refusal::UnreadableClass);
@@ -75,7 +75,7 @@ impl<C: Carrier> Display<C> {
 impl<C: Carrier + Drop> Display<C> {
     // Makes the display new.
     pub fn retune(&mut self)
-        ensures { view state self.new ≡ new_display meaning }
+        ensures { view C.state self.new ≡ new_display C.meaning }
     {
         *self = Display::new();
     }

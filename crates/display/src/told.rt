@@ -10,21 +10,21 @@ use label::tag::{ItemBits, Tag};
 impl<C: Carrier> Display<C> {
     // Its text, or nothing.
     pub fn label_text(&self) -> &[u8]
-        ensures { result.now ≡ told_text (meaning.told (view state self.now).carrier) }
+        ensures { result.now ≡ told_text (C.meaning.told (view C.state self.now).carrier) }
     {
         self.carrier.text()
     }
 
     // Its tags, or none.
     pub fn label_tags(&self) -> &[Tag]
-        ensures { result.now ≡ told_tags (meaning.told (view state self.now).carrier) }
+        ensures { result.now ≡ told_tags (C.meaning.told (view C.state self.now).carrier) }
     {
         self.carrier.tags()
     }
 
     // Its item bits, or zeros.
     pub fn label_item(&self) -> ItemBits
-        ensures { result ≡ told_item (meaning.told (view state self.now).carrier) }
+        ensures { result ≡ told_item (C.meaning.told (view C.state self.now).carrier) }
     {
         self.carrier.item()
     }

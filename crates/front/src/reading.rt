@@ -12,7 +12,7 @@ pub const DEPTH: u8 = 56;
 impl Front {
     // Shows what it reads in the depth's class of a display.
     pub fn read<C: Carrier>(&mut self, display: &Display<C>)
-        ensures { self.new.«record» ≡ reading_of ((view state display.now).table.row 56) }
+        ensures { self.new.«record» ≡ reading_of ((view C.state display.now).table.row 56) }
     {
         let mut text = [0u8; 128];
         match display.read(DEPTH, &mut text) {

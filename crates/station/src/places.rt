@@ -17,11 +17,11 @@ pub(crate) fn write_all<C: Carrier>(
     n: usize,
     buf: &mut [u8],
 )
-    requires fit { meaning.writing.fits (sealed_outline label.now) ≡ true }
+    requires fit { C.meaning.writing.fits (sealed_outline label.now) ≡ true }
     requires same { matches (sealed_outline label.now) text.now ≡ true }
-    requires all { n ≡ meaning.writing.count (sealed_outline label.now) }
+    requires all { n ≡ C.meaning.writing.count (sealed_outline label.now) }
     requires room { 21 * n ≤ length buf.old }
-    ensures { buf.new ≡ places (meaning.writing.frame (label_of (sealed_outline label.now) item text.now) toggle service) n ++ drop (21 * n) buf.old }
+    ensures { buf.new ≡ places (C.meaning.writing.frame (label_of (sealed_outline label.now) item text.now) toggle service) n ++ drop (21 * n) buf.old }
 {
     for i in 0..n {
         let at = 21 * i;

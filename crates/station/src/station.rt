@@ -45,9 +45,9 @@ impl<C: Carrier> Station<C> {
 
     // Starts an item.
     pub fn start_item(&mut self) -> Result<(), Refusal>
-        ensures reply { result ≡ done (call_refusal meaning (vars self.old) Call.start 0) tt }
+        ensures reply { result ≡ done (call_refusal C.meaning (vars self.old) Call.start 0) tt }
         ensures own { Own item_start result }
-        ensures vars { vars self.new ≡ call_step meaning (vars self.old) (made Call.start 0) }
+        ensures vars { vars self.new ≡ call_step C.meaning (vars self.old) (made Call.start 0) }
         ensures service { self.new.service ≡ self.old.service }
     {
         if self.since {
@@ -63,9 +63,9 @@ impl<C: Carrier> Station<C> {
 
     // Ends the item that runs.
     pub fn end_item(&mut self) -> Result<(), Refusal>
-        ensures reply { result ≡ done (call_refusal meaning (vars self.old) Call.end 0) tt }
+        ensures reply { result ≡ done (call_refusal C.meaning (vars self.old) Call.end 0) tt }
         ensures own { Own item_end result }
-        ensures vars { vars self.new ≡ call_step meaning (vars self.old) (made Call.end 0) }
+        ensures vars { vars self.new ≡ call_step C.meaning (vars self.old) (made Call.end 0) }
         ensures service { self.new.service ≡ self.old.service }
     {
         if !self.item.running {
@@ -80,10 +80,10 @@ impl<C: Carrier> Station<C> {
 
     // Sends a label: all its places, one after another, at the buffer's start; returns their number.
     pub fn send(&mut self, label: &Sealed, text: &[u8], buf: &mut [u8]) -> Result<usize, Refusal>
-        ensures reply { result ≡ done (send_refusal meaning.writing (sealed_outline label.now) text.now (length buf.old)) (meaning.writing.count (sealed_outline label.now)) }
+        ensures reply { result ≡ done (send_refusal C.meaning.writing (sealed_outline label.now) text.now (length buf.old)) (C.meaning.writing.count (sealed_outline label.now)) }
         ensures own { Own sending result }
-        ensures vars { vars self.new ≡ call_step meaning (vars self.old) (made (Call.send (ready label.now) text.now) (length buf.old)) }
-        ensures buffer { buf.new ≡ left (send_refusal meaning.writing (sealed_outline label.now) text.now (length buf.old)) (places (meaning.writing.frame (label_of (sealed_outline label.now) self.old.item text.now) self.old.toggle self.old.service) (meaning.writing.count (sealed_outline label.now)) ++ drop (21 * meaning.writing.count (sealed_outline label.now)) buf.old) buf.old }
+        ensures vars { vars self.new ≡ call_step C.meaning (vars self.old) (made (Call.send (ready label.now) text.now) (length buf.old)) }
+        ensures buffer { buf.new ≡ left (send_refusal C.meaning.writing (sealed_outline label.now) text.now (length buf.old)) (places (C.meaning.writing.frame (label_of (sealed_outline label.now) self.old.item text.now) self.old.toggle self.old.service) (C.meaning.writing.count (sealed_outline label.now)) ++ drop (21 * C.meaning.writing.count (sealed_outline label.now)) buf.old) buf.old }
         ensures service { self.new.service ≡ self.old.service }
     {
         if !C::fits(label) {

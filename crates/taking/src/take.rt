@@ -22,7 +22,7 @@ fn is_standing(standing: Option<bool>, toggle: bool) -> bool
 
 impl<P: Pieces> Taking<P> {
     pub fn new() -> Self
-        ensures { view held result ≡ new_taken pieces }
+        ensures { view P.held result ≡ new_taken P.pieces }
     {
         Taking {
             pieces: P::new(),
@@ -34,7 +34,7 @@ impl<P: Pieces> Taking<P> {
 
     // Forgets text, tags and completeness; the toggle stands.
     fn forget(&mut self, toggle: bool)
-        ensures { view held self.new ≡ forgotten pieces toggle }
+        ensures { view P.held self.new ≡ forgotten P.pieces toggle }
     {
         self.pieces.clear();
         self.standing = Some(toggle);
@@ -44,7 +44,7 @@ impl<P: Pieces> Taking<P> {
 
     // Forgets all, and holds the piece as the first of a new text.
     fn begin(&mut self, toggle: bool, piece: &P::Piece)
-        ensures { view held self.new ≡ begun pieces toggle (meant piece.now) }
+        ensures { view P.held self.new ≡ begun P.pieces toggle (P.meant piece.now) }
     {
         self.forget(toggle);
         self.pieces.put(piece);
@@ -52,7 +52,7 @@ impl<P: Pieces> Taking<P> {
 
     // A piece of a text arrives.
     pub fn on_text(&mut self, toggle: bool, piece: &P::Piece) -> Answer
-        ensures { on_text pieces (view held self.old) toggle (meant piece.now) ≡ answered result (view held self.new) }
+        ensures { on_text P.pieces (view P.held self.old) toggle (P.meant piece.now) ≡ answered result (view P.held self.new) }
     {
         if !is_standing(self.standing, toggle) {
             self.begin(toggle, piece);
@@ -70,7 +70,7 @@ impl<P: Pieces> Taking<P> {
     }
 
     fn held_again(&self) -> Answer
-        ensures { held_again (view held self.now) (view held self.now).told ≡ answered result (view held self.now) }
+        ensures { held_again (view P.held self.now) (view P.held self.now).told ≡ answered result (view P.held self.now) }
     {
         match self.told {
             None => Answer::Kept,
@@ -79,7 +79,7 @@ impl<P: Pieces> Taking<P> {
     }
 
     fn put_in(&mut self, piece: &P::Piece) -> Answer
-        ensures { put_in pieces (view held self.old) (meant piece.now) (view held self.old).told ≡ answered result (view held self.new) }
+        ensures { put_in P.pieces (view P.held self.old) (P.meant piece.now) (view P.held self.old).told ≡ answered result (view P.held self.new) }
     {
         match self.told {
             Some(_) => Answer::Again,
@@ -92,8 +92,8 @@ impl<P: Pieces> Taking<P> {
 
     // A piece was put in while no label is complete.
     fn settle(&mut self) -> Answer
-        requires { (view held self.old).told ≡ None }
-        ensures { settled (view held self.old) (pieces.text (view held self.old).held) (view held self.old).waiting ≡ answered result (view held self.new) }
+        requires { (view P.held self.old).told ≡ None }
+        ensures { settled (view P.held self.old) (P.pieces.text (view P.held self.old).held) (view P.held self.old).waiting ≡ answered result (view P.held self.new) }
     {
         let Some(arrived) = self.waiting else {
             return Answer::Kept;
@@ -112,7 +112,7 @@ impl<P: Pieces> Taking<P> {
 
     // Forgets all, and the tags wait.
     fn begin_tags(&mut self, toggle: bool, arrived: &Arrived)
-        ensures { view held self.new ≡ waiting_for (forgotten pieces toggle) (tags_of arrived.now) }
+        ensures { view P.held self.new ≡ waiting_for (forgotten P.pieces toggle) (tags_of arrived.now) }
     {
         self.forget(toggle);
         self.waiting = Some(*arrived);
@@ -120,8 +120,8 @@ impl<P: Pieces> Taking<P> {
 
     // Tags arrive, with their message toggle where the carrier's tags have one.
     pub fn on_tags(&mut self, toggle: Option<bool>, arrived: &Arrived) -> Result<Answer, Refusal>
-        ensures reply { result ≡ reply (on_tags pieces (view held self.old) toggle (tags_of arrived.now)) }
-        ensures next { view held self.new ≡ next (view held self.old) (on_tags pieces (view held self.old) toggle (tags_of arrived.now)) }
+        ensures reply { result ≡ reply (on_tags P.pieces (view P.held self.old) toggle (tags_of arrived.now)) }
+        ensures next { view P.held self.new ≡ next (view P.held self.old) (on_tags P.pieces (view P.held self.old) toggle (tags_of arrived.now)) }
     {
         match toggle {
             None => self.tags_here(arrived),
@@ -138,8 +138,8 @@ impl<P: Pieces> Taking<P> {
 
     // Tags under the standing toggle.
     fn tags_here(&mut self, arrived: &Arrived) -> Result<Answer, Refusal>
-        ensures reply { result ≡ reply (tags_met (view held self.old) (view held self.old) (tags_of arrived.now) (pieces.text (view held self.old).held)) }
-        ensures next { view held self.new ≡ next (view held self.old) (tags_met (view held self.old) (view held self.old) (tags_of arrived.now) (pieces.text (view held self.old).held)) }
+        ensures reply { result ≡ reply (tags_met (view P.held self.old) (view P.held self.old) (tags_of arrived.now) (P.pieces.text (view P.held self.old).held)) }
+        ensures next { view P.held self.new ≡ next (view P.held self.old) (tags_met (view P.held self.old) (view P.held self.old) (tags_of arrived.now) (P.pieces.text (view P.held self.old).held)) }
     {
         let mut text = [0u8; 128];
         let Some(len) = self.pieces.text(&mut text) else {

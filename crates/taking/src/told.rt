@@ -31,14 +31,14 @@ fn tags_of(told: &Option<Told>) -> &[Tag]
 impl<P: Pieces> Taking<P> {
     // The standing message toggle, unknown when new.
     pub fn standing(&self) -> Option<bool>
-        ensures { result ≡ (view held self.now).standing }
+        ensures { result ≡ (view P.held self.now).standing }
     {
         self.standing
     }
 
     // A label is complete.
     pub fn is_complete(&self) -> bool
-        ensures { result ≡ is_some (view held self.now).told }
+        ensures { result ≡ is_some (view P.held self.now).told }
     {
         match self.told {
             None => false,
@@ -48,7 +48,7 @@ impl<P: Pieces> Taking<P> {
 
     // The complete label's text, or nothing.
     pub fn text(&self) -> &[u8]
-        ensures value { result.now ≡ told_text (view held self.now).told }
+        ensures value { result.now ≡ told_text (view P.held self.now).told }
         ensures short { length result.now ≤ 128 }
     {
         text_of(&self.told)
@@ -56,15 +56,15 @@ impl<P: Pieces> Taking<P> {
 
     // The complete label's tags, or none.
     pub fn tags(&self) -> &[Tag]
-        ensures value { result.now ≡ told_tags (view held self.now).told }
-        ensures plain { Plain (told_text (view held self.now).told) result.now }
+        ensures value { result.now ≡ told_tags (view P.held self.now).told }
+        ensures plain { Plain (told_text (view P.held self.now).told) result.now }
     {
         tags_of(&self.told)
     }
 
     // The complete label's item bits, or zeros.
     pub fn item(&self) -> ItemBits
-        ensures { result ≡ told_item (view held self.now).told }
+        ensures { result ≡ told_item (view P.held self.now).told }
     {
         match self.told {
             None => ItemBits {

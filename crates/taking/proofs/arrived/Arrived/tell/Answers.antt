@@ -11,4 +11,4 @@ invariant_of-result c =
     let ts = (tags_of c.args.self.now).tags in
     let e = c.sounded-count.ensures.tags in
     let few : length (sounding ts) ≤ 4 = omega (arith, ap length e, length-take c.sounded-count.result.count c.sounded-count.result.tags, c.sounded-count.result.few) in
-    (c.requires.short, (c.sounded-count.result.few, (ap (sealable c.args.len) e ∙ sealable_sounding c.args.len ts few c.requires.right, tt)))
+    record { short = c.requires.short; few = c.sounded-count.result.few; right = ap (sealable c.args.len) e ∙ sealable_sounding c.args.len ts few c.requires.right }
