@@ -1,7 +1,7 @@
 // The DAB carrier: Dynamic Label with DL Plus.
 #![tactic(auto)]
 
-pub mod carrier;
+pub mod as_carrier;
 mod command;
 pub mod dab;
 mod frame;

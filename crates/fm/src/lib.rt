@@ -1,7 +1,7 @@
 // FM: labels as RadioText with RT+.
 #![tactic(auto)]
 
-pub mod carrier;
+pub mod as_carrier;
 pub mod fm;
 mod frame;
 mod pieces;

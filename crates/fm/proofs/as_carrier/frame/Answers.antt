@@ -4,7 +4,7 @@ use Rattle.label.specs.Label.{label_of}
 use Rattle.fm.specs.Frames.{last_segment, tags_frame}
 use Rattle.fm.specs.Closed.{closed_length}
 use Rattle.fm.specs.FramesLemmas.{text_at, announcing_at, tags_at, last_few, fitting}
-use Rattle.fm.proofs.carrier.frame.Goals as goal
+use Rattle.fm.proofs.as_carrier.frame.Goals as goal
 
 pub text_segment-requires : goal.text_segment-requires
 text_segment-requires c =
