@@ -58,12 +58,12 @@ other_toggle : (t : Bool) → beq (not t) t ≡ false
 other_toggle true = refl
 other_toggle false = refl
 
-over : (d : Table) (l : Label) → OfNextItem d l → breaks d.last l.item ≡ true
+over : (d : Table) (l : Label) → OfNextItem d l → breaks d.toggle l.item ≡ true
 over d l next =
     ap (λ o. breaks o l.item) next.last
-    ∙ ap (λ r. not r || not (beq l.item.toggle next.before.toggle)) next.runs
-    ∙ ap (λ t. not (beq t next.before.toggle)) next.other
-    ∙ ap not (other_toggle next.before.toggle)
+    ∙ ap (λ r. not r || not (beq l.item.toggle next.before)) next.runs
+    ∙ ap (λ t. not (beq t next.before)) next.other
+    ∙ ap not (other_toggle next.before)
 
 nothing_left : (b : Bool) → emptied b [] ≡ []
 nothing_left true = refl
@@ -72,12 +72,12 @@ nothing_left false = refl
 always : ArtistAlone
 always d l p next none some h =
     let deletes = is_deletion (marked l 1) || item_deletion l in (
-      ap (λ m. stored m l.item.running (emptied deletes (emptied (breaks d.last l.item) (d.row 1)))) none
+      ap (λ m. stored m l.item.running (emptied deletes (emptied (breaks d.toggle l.item) (d.row 1)))) none
           ∙ ap (λ b. emptied deletes (emptied b (d.row 1))) (over d l next)
           ∙ nothing_left deletes,
-      ap (λ m. stored m l.item.running (rule_2 l 4 (rule_1 d.last l 4 (d.row 4)))) some
-          ∙ ap (λ b. cond (not b && l.item.running) p (rule_2 l 4 (rule_1 d.last l 4 (d.row 4)))) h
-          ∙ ap (λ b. cond b p (rule_2 l 4 (rule_1 d.last l 4 (d.row 4)))) next.runs,
+      ap (λ m. stored m l.item.running (rule_2 l 4 (rule_1 d.toggle l 4 (d.row 4)))) some
+          ∙ ap (λ b. cond (not b && l.item.running) p (rule_2 l 4 (rule_1 d.toggle l 4 (d.row 4)))) h
+          ∙ ap (λ b. cond b p (rule_2 l 4 (rule_1 d.toggle l 4 (d.row 4)))) next.runs,
     )
 
 next_item : NextItem

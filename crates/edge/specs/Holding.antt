@@ -1,5 +1,5 @@
 -- What displays hold after the worked labels.
-use Rattle.std.specs.Prelude.{◌≡◌, ℕ, true, false, not, List, [], ◌∷◌, ◌++◌, Some, None, codes}
+use Rattle.std.specs.Prelude.{◌≡◌, ℕ, Bool, true, false, not, List, [], ◌∷◌, ◌++◌, Some, None, codes}
 use Rattle.label.specs.declared.tag.ItemBits.{ItemBits}
 use Rattle.label.specs.Drafts.{opening_refusal}
 use Rattle.label.specs.Label.{Label, marked}
@@ -23,10 +23,10 @@ pub record SpaceInHotline : Type 0 where
 
 -- a label of the next item: it runs, and its item toggle is not that of the last complete label
 pub record OfNextItem (d : Table) (l : Label) : Type 0 where
-  pub before : ItemBits
-  pub last : d.last ≡ Some before
+  pub before : Bool
+  pub last : d.toggle ≡ Some before
   pub runs : l.item.running ≡ true
-  pub other : l.item.toggle ≡ not before.toggle
+  pub other : l.item.toggle ≡ not before
 
 -- one that names an artist (class 4) and no title (class 1) leaves no title, whatever was held
 abbrev pub ArtistAlone : Type 0

@@ -37,7 +37,7 @@ fn in_new_place<C: Carrier>(
     service: u16,
     number: usize,
 ) -> Result<[u8; 21], Refusal>
-    ensures { result ≡ written meaning.writing (sealed_outline label.now) text.now toggle service number }
+    ensures { result ≡ written C.meaning.writing (sealed_outline label.now) text.now toggle service number }
 {
     let mut place = [0; PLACE];
     let item = ItemBits {

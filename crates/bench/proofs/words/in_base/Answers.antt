@@ -5,7 +5,7 @@ use Rattle.bench.proofs.Numbers.{turn, done, reading}
 
 pub returns-in_err-n : goal.returns-in_err-n
 returns-in_err-n c =
-    c.from-residual.ensures
+    c.from_residual.ensures
     ∙ turn c.args.base c.loop-b.n c.loop-b.b-index c.args.digits.now None c.requires c.loop-b-test.true (sym c.in_err-n.ensures) c.loop-b.invariant.1
     ∙ sym (cond-false _ None (reading c.args.base 0 c.args.digits.now) (sym c.if-is_empty.ensures))
 

@@ -6,7 +6,7 @@ use Rattle.edge.proofs.drafting.tag_two.Goals as goal
 
 pub returns-in_err-tag : goal.returns-in_err-tag
 returns-in_err-tag c =
-    let p = err_from_is_err_and c.from-residual-in_err-tag.result c.from-residual-in_err-tag.ensures.1 in
+    let p = err_from_is_err_and c.from_residual-in_err-tag.result c.from_residual-in_err-tag.ensures.1 in
     rw (p.1, p.2) (sym (first c.args.first c.args.second _ _ c.in_ok-draft.ensures.opens.1 (sym c.tag.ensures.reply ∙ c.in_err-tag.was)))
 
 pub returns : goal.returns
