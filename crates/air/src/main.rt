@@ -10,6 +10,7 @@ use dab::dab::Dab;
 use fm::fm::Fm;
 use lines::form::Form;
 use std::io::{BufRead, BufReader};
+use std::process::ExitCode;
 use transmitter::Transmitter;
 
 // Puts every line of standard input on the air.
@@ -23,7 +24,7 @@ fn run<C: Carrier>(rt: &HostRuntime, service: u16, form: Form) -> anyhow::Result
     Ok(())
 }
 
-fn main(rt: HostRuntime) -> anyhow::Result<()> {
+fn main(rt: HostRuntime) -> anyhow::Result<ExitCode> {
     match arguments::read(&rt)? {
         Wanted::Help => rt.print(arguments::USAGE)?,
         Wanted::Air(Arguments::Fm(service)) => run::<Fm>(&rt, service, Form::Blocks)?,
@@ -31,8 +32,8 @@ fn main(rt: HostRuntime) -> anyhow::Result<()> {
         Wanted::Wrong(message) => {
             rt.eprintln(message)?;
             rt.eprintln(arguments::HINT)?;
-            return Err(message.into());
+            return Ok(ExitCode::FAILURE);
         }
     }
-    Ok(())
+    Ok(ExitCode::SUCCESS)
 }
