@@ -1,3 +1,3 @@
 pub mod Passes
-pub mod Written
+pub mod Rows
 pub mod RowSteps

@@ -10,7 +10,7 @@ use Rattle.label.specs.Lists.{all}
 use Rattle.label.specs.Tags.{part, deletion, sounds}
 use Rattle.label.proofs.Marks.{Without, none_marked, others, sealable_apart}
 use Rattle.label.proofs.Sounding.{sounding_all}
-use Rattle.agreement.specs.Rules.{stored, rule_3}
+use Rattle.agreement.specs.Rules.{emptied, breaks, stored, by_rules}
 use Rattle.display.specs.Passes.{deletes_for, deleted, stores_for, put_by}
 
 -- no tag is silent, and no class comes twice
@@ -208,16 +208,18 @@ items_tagged text (t ∷ ts) p =
     ∙ ap (λ b. item_class t.class && deletion (part text t) || b) (items_tagged text ts p.2)
 
 -- the passes make the rules
-pub gone : (l : Label) (k : ℕ) → Distinct l.tags → deleted l.text l.tags k ≡ (is_deletion (marked l k) || item_class k && item_deletion l)
-gone l k p =
-    deleted_tagged l.text l.tags k p
+pub passes : (l : Label) (last : Option Bool) (k : ℕ) (old : List ℕ) → Distinct l.tags
+    → put_by l.text l.item.running l.tags k (emptied (deleted l.text l.tags k) (emptied (item_class k && breaks last l.item) old)) ≡ by_rules last l k old
+passes l last k old p =
+    let r = l.item.running in
+    let first = emptied (item_class k && breaks last l.item) old in
+    let items = deletes_plain l item_classes p ∙ items_tagged l.text l.tags p in
+    let gone = deleted_tagged l.text l.tags k p
     ∙ ap (λ o. is_deletion o || item_class k && items_deleted l.text l.tags) (sym (plain_marked l k p))
-    ∙ ap (λ b. is_deletion (marked l k) || item_class k && b) (sym (deletes_plain l item_classes p ∙ items_tagged l.text l.tags p))
-
-pub kept : (l : Label) (k : ℕ) (old : List ℕ) → Distinct l.tags → put_by l.text l.item.running l.tags k old ≡ rule_3 l k old
-kept l k old p =
-    put_tagged l.text l.item.running l.tags k old p
-    ∙ ap (λ o. stored o (not (item_class k) || l.item.running) old) (sym (plain_marked l k p))
+    ∙ ap (λ b. is_deletion (marked l k) || item_class k && b) (sym items) in
+    put_tagged l.text r l.tags k (emptied (deleted l.text l.tags k) first) p
+    ∙ ap (λ o. stored o (not (item_class k) || r) (emptied (deleted l.text l.tags k) first)) (sym (plain_marked l k p))
+    ∙ ap (λ b. stored (marked l k) (not (item_class k) || r) (emptied b first)) gone
 
 -- one tag more
 pub deleted_push : (text : List ℕ) (ts : List Tag) (t : Tag) (k : ℕ) → deleted text (ts ++ (t ∷ [])) k ≡ (deleted text ts k || deletes_for text t k)

@@ -1,19 +1,18 @@
 -- What the loops over rows and tags owe.
 use Rattle.std.proofs.Common.{◌≡◌, ℕ, zero, suc, ◌+◌, ◌<◌, ◌≤◌, Bool, true, false, cond, not, ◌&&◌, ◌||◌, eqb, ltb, leb, ◌≢◌, ◌⊎◌, List, [], ◌∷◌, ◌++◌, length, get_or, take, drop, set, is_some, Some, None, Option, sym, refl, ap, ◌∙◌, inl, inr, ⊎_elim, add-one, arith, length-drop, drop-cons, get_or-set_other, get_or-set_same}
-use mathlib.Core.Bool.{beq}
 use Rattle.std.proofs.lemmas.List.{take_more}
 use Rattle.std.proofs.lemmas.Bool.{cases_lt, cases_eq, lt-ltb, le-ltb, eq-eqb, ne_eqb, lt-leb, le-leb}
 use Rattle.std.proofs.lemmas.Bool.Decides.{nat_tests}
 use Rattle.label.specs.declared.tag.ItemBits.{ItemBits}
 use Rattle.label.specs.declared.tag.Tag.{Tag}
 use Rattle.label.specs.Classes.{item_class}
-use Rattle.label.specs.Label.{Label, marked, is_deletion, item_deletion}
+use Rattle.label.specs.Label.{Label}
 use Rattle.label.specs.Tags.{part, deletion}
 use Rattle.carrier.specs.Meaning.{told_text, told_tags, told_item, Plain}
-use Rattle.agreement.specs.Rules.{Table, emptied, breaks, stored, rule_1, rule_2, rule_3, by_rules, on_label}
+use Rattle.agreement.specs.Rules.{Table, emptied, breaks, by_rules, on_label}
 use Rattle.agreement.specs.Shown.{on_told}
 use Rattle.display.specs.Passes.{deletes_for, deleted, stores_for, put_by, row_of}
-use Rattle.display.proofs.Passes.{Distinct, distinct, deleted_push, put_push, gone, kept, beyond}
+use Rattle.display.proofs.Passes.{distinct, deleted_push, put_push, passes, beyond}
 
 -- the Item classes
 pub clear_next : (lens entry : List ℕ) (c k : ℕ) → 1 ≤ c → c < length lens → get_or lens k 0 ≡ cond (leb 1 k && ltb k c) 0 (get_or entry k 0)
@@ -102,7 +101,7 @@ put_start text r k e = same (ltb k 64)
     same true = refl
     same false = refl
 
--- the rules
+-- the three rules, one after another
 cut : (b : Bool) (n : ℕ) (xs : List ℕ) → take (cond b 0 n) xs ≡ emptied b (take n xs)
 cut true n xs = refl
 cut false n xs = refl
@@ -111,54 +110,23 @@ pub cut_small : (b : Bool) (n m : ℕ) → m ≡ cond b 0 n → n ≤ 128 → m 
 cut_small true n m e h = omega arith
 cut_small false n m e h = omega arith
 
-pub cleared : (rows : List (List ℕ)) (lens one : List ℕ) (b : Bool) (k : ℕ) → get_or one k 0 ≡ cond b 0 (get_or lens k 0) → row_of rows one k ≡ emptied b (row_of rows lens k)
-cleared rows lens one b k e = ap (λ n. take n (get_or rows k [])) e ∙ cut b (get_or lens k 0) (get_or rows k [])
-
-pub deleted_row : (l : Label) (rows : List (List ℕ)) (lens one : List ℕ) (k : ℕ) → Plain l.text l.tags → get_or one k 0 ≡ cond (deleted l.text l.tags k) 0 (get_or lens k 0)
-    → row_of rows one k ≡ rule_2 l k (row_of rows lens k)
-deleted_row l rows lens one k p e = cleared rows lens one (deleted l.text l.tags k) k e ∙ ap (λ b. emptied b (row_of rows lens k)) (gone l k (distinct (length l.text) l.tags p))
-
-pub stored_row : (l : Label) (k : ℕ) (old x : List ℕ) → Plain l.text l.tags → x ≡ cond (ltb k 64) (put_by l.text l.item.running l.tags k old) old → x ≡ rule_3 l k old
-stored_row l k old x p e = e ∙ inside (cases_lt k 64) ∙ kept l k old d
+pub rules_row : (text : List ℕ) (tags : List Tag) (item : ItemBits) (last : Option Bool) (k : ℕ) (rows : List (List ℕ)) (lens one two : List ℕ) (x : List ℕ) → Plain text tags
+    → get_or one k 0 ≡ cond (item_class k && breaks last item) 0 (get_or lens k 0)
+    → get_or two k 0 ≡ cond (deleted text tags k) 0 (get_or one k 0)
+    → x ≡ cond (ltb k 64) (put_by text item.running tags k (row_of rows two k)) (row_of rows two k)
+    → x ≡ by_rules last (record { text = text; tags = tags; item = item }) k (row_of rows lens k)
+rules_row text tags item last k rows lens one two x p a b e =
+    e ∙ inside (cases_lt k 64) ∙ ap (put_by text item.running tags k) second ∙ passes (record { text = text; tags = tags; item = item }) last k (row_of rows lens k) (distinct (length text) tags p)
   where
-    d : Distinct l.tags
-    d = distinct (length l.text) l.tags p
+    second : row_of rows two k ≡ emptied (deleted text tags k) (emptied (item_class k && breaks last item) (row_of rows lens k))
+    second =
+        ap (λ n. take n (get_or rows k [])) (b ∙ ap (cond (deleted text tags k) 0) a)
+        ∙ cut (deleted text tags k) (cond (item_class k && breaks last item) 0 (get_or lens k 0)) (get_or rows k [])
+        ∙ ap (emptied (deleted text tags k)) (cut (item_class k && breaks last item) (get_or lens k 0) (get_or rows k []))
 
-    new : List ℕ
-    new = put_by l.text l.item.running l.tags k old
-
-    inside : (k < 64) ⊎ (64 ≤ k) → cond (ltb k 64) new old ≡ new
-    inside (inl h) = ap (λ t. cond t new old) (lt-ltb k 64 h)
-    inside (inr h) = ap (λ t. cond t new old) (le-ltb k 64 h) ∙ sym (beyond l.text l.item.running l.tags k old d h)
-
--- a label with running 0 leaves nothing in Item
-pub idle : (last : Option Bool) (l : Label) (k : ℕ) (old : List ℕ) → item_class k ≡ true → l.item.running ≡ false → by_rules last l k old ≡ []
-idle last l k old i r = ap (λ b. stored (marked l k) (not b || l.item.running) second) i ∙ ap (λ b. stored (marked l k) b second) r ∙ not_stored (marked l k) ∙ emptied_nil
-  where
-    second : List ℕ
-    second = rule_2 l k (rule_1 last l k old)
-
-    not_stored : (o : Option (List ℕ)) → stored o false second ≡ second
-    not_stored None = refl
-    not_stored (Some p) = ap (λ b. cond b p second) (and_false (not (deletion p)))
-      where
-        and_false : (b : Bool) → (b && false) ≡ false
-        and_false true = refl
-        and_false false = refl
-
-    breaking : (o : Option Bool) → breaks o l.item ≡ true
-    breaking None = refl
-    breaking (Some j) = ap (λ b. not b || not (beq l.item.toggle j)) r
-
-    nil : (b : Bool) → emptied b [] ≡ []
-    nil true = refl
-    nil false = refl
-
-    emptied_nil : second ≡ []
-    emptied_nil =
-        ap (λ b. rule_2 l k (emptied (b && breaks last l.item) old)) i
-        ∙ ap (λ b. rule_2 l k (emptied b old)) (breaking last)
-        ∙ nil (is_deletion (marked l k) || item_class k && item_deletion l)
+    inside : (k < 64) ⊎ (64 ≤ k) → cond (ltb k 64) (put_by text item.running tags k (row_of rows two k)) (row_of rows two k) ≡ put_by text item.running tags k (row_of rows two k)
+    inside (inl h) = ap (λ t. cond t (put_by text item.running tags k (row_of rows two k)) (row_of rows two k)) (lt-ltb k 64 h)
+    inside (inr h) = ap (λ t. cond t (put_by text item.running tags k (row_of rows two k)) (row_of rows two k)) (le-ltb k 64 h) ∙ sym (beyond text item.running tags k (row_of rows two k) (distinct (length text) tags p) h)
 
 -- the table after the rules on the complete label
 pub table_told : (d : Table) (o : Option Label) (row : ℕ → List ℕ) (text : List ℕ) (tags : List Tag) (item : ItemBits) → is_some o ≡ true → text ≡ told_text o → tags ≡ told_tags o → item ≡ told_item o

@@ -1,15 +1,15 @@
-ghost use Rattle.std.specs.Prelude.{◌≡◌, true, ◌++◌, length, drop, is_some};
+ghost use Rattle.std.specs.Prelude.{◌≡◌, ◌<◌, true, ◌++◌, length, drop, is_some};
 ghost use Rattle.label.specs.Drafts.{done, left};
 ghost use Rattle.label.specs.Refusals.{Own, reading};
 ghost use Rattle.carrier.specs.Meaning.{reply};
 ghost use Rattle.agreement.specs.Reading.{read_refusal};
 ghost use Rattle.agreement.specs.Shown.{display_step, new_display, on_told};
+ghost use Rattle.display.specs.Passes.{row_of};
 ghost use Rattle.display.specs.View.{view};
 
-use crate::complete::Complete;
-use crate::rules;
+use crate::row::front;
+use crate::rules::apply;
 use crate::shown::Display;
-use crate::table::ClassTable;
 use carrier::answer::Answer;
 use carrier::carrier::Carrier;
 use label::category::is_silent;
@@ -22,8 +22,10 @@ impl<C: Carrier> Display<C> {
     {
         Display {
             carrier: C::new(),
-            table: ClassTable::new(),
-            last: None,
+            rows: [[0; 128]; 64],
+            lens: [0; 64],
+            toggle: None,
+            running: false,
         }
     }
 
@@ -46,14 +48,27 @@ impl<C: Carrier> Display<C> {
         ensures table { (view C.state self.new).table ≡ on_told (view C.state self.old).table (C.meaning.told (C.state self.old.carrier)) }
     {
         let item = self.carrier.item();
-        let label = Complete {
+        apply(
+            &mut self.rows,
+            &mut self.lens,
+            self.toggle,
             item,
-            text: self.carrier.text(),
-            tags: self.carrier.tags(),
-        };
-        self.table.apply(self.last, &label);
-        self.last = Some(item);
+            self.carrier.text(),
+            self.carrier.tags(),
+        );
+        self.toggle = Some(item.toggle);
+        self.running = item.running;
     }
+
+    // What is held for a class.
+    fn row(&self, class: u8) -> &[u8]
+        requires { class < 64 }
+        ensures { result.now ≡ row_of self.now.rows self.now.lens class }
+    {
+        let c = class as usize;
+        front(&self.rows[c], self.lens[c])
+    }
+
     // Copies what is held for a class to the buffer's start, and returns its length, 0 for nothing.
     pub fn read(&self, class: u8, buf: &mut [u8]) -> Result<usize, Refusal>
         ensures reply { result ≡ done (read_refusal (view C.state self.now).table class (length buf.old)) (length ((view C.state self.now).table.row class)) }
@@ -63,7 +78,7 @@ impl<C: Carrier> Display<C> {
         if is_silent(class) {
             return Err(Refusal::UnreadableClass);
         }
-        let text = self.table.text(class);
+        let text = self.row(class);
         if buf.len() < text.len() {
             return Err(Refusal::ShortBuffer);
         }

@@ -1,7 +1,7 @@
 use Rattle.std.proofs.Common.{◌≡◌, cond, ltb, refl, ap, ◌∙◌, take_all}
 use Rattle.display.specs.Passes.{put_by, row_of}
 use Rattle.display.proofs.RowSteps.{put_next, put_start}
-use Rattle.display.proofs.rows.store_all.Goals as goal
+use Rattle.display.proofs.rules.rule_3.Goals as goal
 
 pub loop-tag-init : goal.loop-tag-init
 loop-tag-init c = (λ k. put_start c.args.text.now c.args.running k (row_of c.args.rows.now c.args.lens.now k), λ f. f)

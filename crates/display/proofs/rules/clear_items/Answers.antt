@@ -1,6 +1,6 @@
 use Rattle.std.proofs.Common.{cond, get_or, ap, ◌∙◌, arith}
 use Rattle.display.proofs.RowSteps.{clear_next, item_bounds}
-use Rattle.display.proofs.rows.clear_items.Goals as goal
+use Rattle.display.proofs.rules.clear_items.Goals as goal
 
 pub loop-c-preserved : goal.loop-c-preserved
 loop-c-preserved c = λ k. clear_next c.loop-c.lens c.args.lens.now c.loop-c.c k (omega arith) (omega arith) (c.loop-c.invariant k)

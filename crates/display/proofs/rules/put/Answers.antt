@@ -1,5 +1,5 @@
-use Rattle.display.proofs.Written.{put_row, put_small}
-use Rattle.display.proofs.rows.put.Goals as goal
+use Rattle.display.proofs.Rows.{put_row, put_small}
+use Rattle.display.proofs.rules.put.Goals as goal
 
 pub returns-then-c-lt64 : goal.returns-then-c-lt64
 returns-then-c-lt64 c = record {

@@ -1,6 +1,6 @@
 use Rattle.std.proofs.Common.{◌≡◌, ℕ, ◌≤◌, cond, ltb, get_or, take}
 use Rattle.display.specs.Passes.{put_by, row_of}
-use Rattle.display.proofs.rows.store_all.Given as goal
+use Rattle.display.proofs.rules.rule_3.Given as goal
 
 abbrev pub invariant-loop-tag : goal.invariant-loop-tag
 invariant-loop-tag l =

@@ -1,7 +1,7 @@
 use Rattle.std.proofs.Common.{◌≡◌, cond, get_or, refl, ap, ◌∙◌, take_all}
 use Rattle.display.specs.Passes.{deleted}
 use Rattle.display.proofs.RowSteps.{deleted_next, deleted_start}
-use Rattle.display.proofs.rows.delete_all.Goals as goal
+use Rattle.display.proofs.rules.rule_2.Goals as goal
 
 pub loop-tag-init : goal.loop-tag-init
 loop-tag-init c = λ k. deleted_start c.args.text.now k (get_or c.args.lens.now k 0)

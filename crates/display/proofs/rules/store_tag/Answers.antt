@@ -1,6 +1,6 @@
 use Rattle.display.specs.Passes.{row_of}
 use Rattle.display.proofs.RowSteps.{store_kept}
-use Rattle.display.proofs.rows.store_tag.Goals as goal
+use Rattle.display.proofs.rules.store_tag.Goals as goal
 
 pub returns-then-is_kept : goal.returns-then-is_kept
 returns-then-is_kept c = record {

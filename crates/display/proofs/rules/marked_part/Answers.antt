@@ -1,6 +1,6 @@
 use Rattle.std.proofs.Common.{rules}
-use Rattle.display.proofs.Written.{clipped, short}
-use Rattle.display.proofs.rows.marked_part.Goals as goal
+use Rattle.display.proofs.Rows.{clipped, short}
+use Rattle.display.proofs.rules.marked_part.Goals as goal
 
 pub returns : goal.returns
 returns c = record {
