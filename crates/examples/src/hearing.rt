@@ -41,7 +41,7 @@ fn in_order_on_fm(rt: HostRuntime) {
     assert_eq!(rt; taken(&mut fm, &LEARN), 1);
     assert!(rt; !fm.is_complete());
     assert_eq!(rt; taken(&mut fm, &TAGS), 2);
-    assert!(rt; fm.is_complete() && fm.text() == b"Sill 2.4 m" && fm.tags().len() == 1);
+    assert!(rt; fm.is_complete() && fm.text() == b"Sill 2.4 m".as_slice() && fm.tags().len() == 1);
     assert_eq!(rt; taken(&mut fm, &TAGS), 3);
     assert_eq!(rt; taken(&mut fm, &segment(1, b" 2.4")), 3);
     assert_eq!(rt; taken(&mut fm, &segment(5, b"away")), 0);
@@ -112,7 +112,7 @@ fn in_order_on_dab(rt: HostRuntime) {
     let mut dab = Dab::new();
     assert_eq!(rt; taken(&mut dab, &TEXT), 1);
     assert_eq!(rt; taken(&mut dab, &COMMAND), 2);
-    assert!(rt; dab.text() == b"Sill 2.4 m" && dab.tags().len() == 1);
+    assert!(rt; dab.text() == b"Sill 2.4 m".as_slice() && dab.tags().len() == 1);
     assert_eq!(rt; taken(&mut dab, &TEXT), 3);
     assert_eq!(rt; taken(&mut dab, &COMMAND), 3);
     assert_eq!(rt; taken(&mut dab, &[0; 4]), 120);

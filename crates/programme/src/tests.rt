@@ -65,7 +65,8 @@ fn labels(rt: HostRuntime) -> Result<(), Fail> {
     let entry = read_line(b"song  House of the rising sun / Eric Burdon")?;
     let label = compose(rt.alloc(), entry).ok_or("no label")??;
     assert!(rt;
-        label.text.as_slice() == b"You are listening to \"House of the rising sun\" by Eric Burdon"
+        label.text.as_slice()
+            == b"You are listening to \"House of the rising sun\" by Eric Burdon".as_slice()
     );
     assert!(rt; label.tags.len() == 2);
     assert!(rt;
@@ -75,7 +76,7 @@ fn labels(rt: HostRuntime) -> Result<(), Fail> {
         label.tags[1].class == 4 && label.tags[1].start == 50 && label.tags[1].extent == 10
     );
     let label = compose(rt.alloc(), read_line(b"6:00;12.49")?).ok_or("no label")??;
-    assert!(rt; label.text.as_slice() == b"Sill 12.4 m");
+    assert!(rt; label.text.as_slice() == b"Sill 12.4 m".as_slice());
     assert!(rt; label.tags.len() == 1);
     assert!(rt; label.tags[0].class == 56 && label.tags[0].start == 5 && label.tags[0].extent == 3);
     Ok(())
