@@ -1,10 +1,10 @@
 -- The labels decide what a class holds.
-use Rattle.std.proofs.Common.{◌≡◌, ℕ, ◌+◌, ◌≤◌, Bool, true, false, cond, ◌⊎◌, List, [], ◌∷◌, ◌++◌, reverse, length, drop, Some, None, Option, sym, refl, ap, ◌∙◌, subst, inl, inr, append_assoc, arith, length-append}
+use Rattle.std.proofs.Common.{◌≡◌, ℕ, ◌≤◌, Bool, true, false, ◌⊎◌, List, [], ◌∷◌, ◌++◌, length, drop, Some, None, Option, sym, refl, ap, ◌∙◌, subst, inl, inr, arith, length-append}
 use Rattle.std.proofs.lemmas.List.{drop_at}
 use Rattle.label.specs.Classes.{item_class}
 use Rattle.label.specs.Label.{Label, marked, item_deletion}
 use Rattle.label.specs.Tags.{deletion}
-use Rattle.agreement.specs.Holds.{Unnamed, HoldsLast, RunsWith, OneItem, RunningItem, NoItemDeletion, FromDeletion, Counted, HoldsOfItem, Holds, Decides}
+use Rattle.agreement.specs.Holds.{Unnamed, HoldsLast, RunningItem, NoItemDeletion, FromDeletion, HoldsOfItem, Decides}
 
 -- the last label that names the class
 record Last (c : ℕ) (ls : List Label) : Type 0 where

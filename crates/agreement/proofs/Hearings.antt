@@ -1,10 +1,9 @@
 -- Every run has full hearings.
-use Rattle.std.proofs.Common.{◌≡◌, ℕ, zero, suc, ◌+◌, ◌-◌, ◌<◌, ◌≤◌, Bool, ◌⊎◌, List, [], ◌∷◌, length, sym, refl, ap, ◌∙◌, subst, inl, inr, arith}
+use Rattle.std.proofs.Common.{ℕ, zero, suc, ◌+◌, ◌≤◌, Bool, List, [], ◌∷◌, refl, subst, inl, arith}
 use Rattle.label.specs.Label.{Label}
-use Rattle.carrier.specs.Hearing.{outline_of, frames_of, InOrder, Full, Numbers, Lawful}
+use Rattle.carrier.specs.Hearing.{outline_of, frames_of, InOrder, Numbers, Lawful}
 use Rattle.carrier.specs.Meaning.{Meaning}
-use Rattle.agreement.specs.Calls.{Made}
-use Rattle.agreement.specs.Runs.{Heard, own, other, numbers, Undisturbed, takes, Begun, Hearing, AllHeard, AllFull, on_air, FullHearings, CanBeHeard, count_up, all_frames, full_hearings}
+use Rattle.agreement.specs.Runs.{numbers, Undisturbed, takes, Begun, AllHeard, AllFull, on_air, CanBeHeard, count_up, all_frames, full_hearings}
 use Rattle.agreement.specs.Shown.{Shown, new_display}
 use Rattle.agreement.specs.Station.{Aired}
 

@@ -1,10 +1,10 @@
 -- Frames of other sources that leave the state may come anywhere in a hearing.
-use Rattle.std.proofs.Common.{◌≡◌, ℕ, Bool, List, [], ◌∷◌, ◌++◌, Some, None, Option, sym, refl, ap, ◌∙◌, subst}
+use Rattle.std.proofs.Common.{◌≡◌, ℕ, Bool, List, [], ◌∷◌, ◌++◌, sym, refl, ap, ◌∙◌, subst}
 use Rattle.label.specs.Label.{Label}
 use Rattle.carrier.specs.declared.answer.Answer.TheVariants.{PassedOver, Kept, Complete, Again, Dropped}
-use Rattle.carrier.specs.Hearing.{AtMostOnce, Begins, Full, Hears, IsLabel, Lawful, Numbers, Once, Sendable, after, completed, completions, frames_of, heard}
+use Rattle.carrier.specs.Hearing.{AtMostOnce, Begins, Hears, IsLabel, Lawful, Numbers, Once, Sendable, after, completed, completions, frames_of, heard}
 use Rattle.carrier.specs.Meaning.{Meaning, Outcome, answered, next, refused}
-use Rattle.agreement.specs.Noise.{reaching, HearsStrewn, HearsThroughNoise}
+use Rattle.agreement.specs.Noise.{reaching, HearsThroughNoise}
 use Rattle.agreement.specs.Runs.{Heard, own, other, Begun, Quiet, Undisturbed, numbers}
 
 module _ {S : Type 0} (m : Meaning S) (law : Lawful m) where

@@ -1,5 +1,5 @@
 -- Displays over whole runs, on any carriers that show the laws.
-use Rattle.std.proofs.Common.{◌≡◌, ℕ, ◌*◌, ◌<◌, ◌≤◌, Bool, true, false, cond, not, ◌&&◌, ◌||◌, eqb, ltb, leb, ◌⊎◌, List, [], ◌∷◌, ◌++◌, length, Some, None, Option, sym, refl, ap, ◌∙◌, subst, inl, inr, append_assoc, arith}
+use Rattle.std.proofs.Common.{◌≡◌, ℕ, ◌*◌, ◌≤◌, Bool, true, false, cond, not, ◌&&◌, ◌||◌, eqb, ltb, ◌⊎◌, List, [], ◌∷◌, ◌++◌, length, Some, None, Option, sym, refl, ap, ◌∙◌, subst, inl, inr, append_assoc, arith}
 use Rattle.std.proofs.lemmas.Bool.{and_parts, eqb-true, not-true}
 use Rattle.label.specs.declared.refusal.Refusal.{Refusal}
 use Rattle.label.specs.declared.refusal.Refusal.TheVariants.{LabelDoesNotFit, OtherText, SmallBuffer}
@@ -11,15 +11,14 @@ use Rattle.label.specs.Lawful.{sealable}
 use Rattle.label.specs.Lists.{any}
 use Rattle.label.specs.Tags.{deletion}
 use Rattle.label.proofs.Marks.{same_marks}
-use Rattle.carrier.specs.declared.answer.Answer.{Answer}
 use Rattle.carrier.specs.declared.answer.Answer.TheVariants.{PassedOver, Kept, Complete, Again, Dropped}
-use Rattle.carrier.specs.Hearing.{frames_of, completed, after, completions, Full, Numbers, Begins, IsLabel, AtMostOnce, Once, heard, Sendable, Hears, Lawful}
+use Rattle.carrier.specs.Hearing.{frames_of, completed, after, completions, Full, Numbers, Begins, AtMostOnce, Once, heard, Sendable, Hears, Lawful}
 use Rattle.carrier.specs.Meaning.{Meaning, Outcome, answered, refused, next}
 use Rattle.agreement.specs.Calls.{Ready, Call, start, end, send, Made, calls}
-use Rattle.agreement.specs.History.{sent_labels, history, history_on, refusals, aired_by, Ample}
-use Rattle.agreement.specs.Holds.{Holds, Marks, Whole}
-use Rattle.agreement.specs.Rules.{Table, empty, emptied, breaks, stored, by_rules, on_label, on_labels}
-use Rattle.agreement.specs.Runs.{Heard, own, other, Quiet, numbers, frame_of, Undisturbed, takes, Begun, Hearing, shows, AllHeard, AllFull, on_air, held, Run, sent_by, Faithful, Alike, Agreement, Told, ToldByHistory}
+use Rattle.agreement.specs.History.{sent_labels, history_on, refusals, aired_by}
+use Rattle.agreement.specs.Holds.{Holds, Whole}
+use Rattle.agreement.specs.Rules.{Table, empty, emptied, breaks, stored, on_label, on_labels}
+use Rattle.agreement.specs.Runs.{Heard, own, other, Quiet, numbers, Undisturbed, takes, Begun, Hearing, shows, AllHeard, AllFull, on_air, held, Run, sent_by, Faithful, Agreement, Told, ToldByHistory}
 use Rattle.agreement.specs.Shown.{Shown, on_told, on_outcome, display_step, new_display}
 use Rattle.agreement.specs.Station.{Vars, new_vars, send_refusal, call_refusal, call_vars, call_step, Aired, labels, puts_out, aired}
 use Rattle.agreement.proofs.Held.{rules_hold}

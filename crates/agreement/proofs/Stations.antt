@@ -1,15 +1,14 @@
 -- A station's variables are what the history says, for every list of calls.
-use Rattle.std.proofs.Common.{◌≡◌, ℕ, zero, suc, ◌*◌, ◌≤◌, Bool, true, false, cond, not, ◌&&◌, eqb, ltb, leb, List, [], ◌∷◌, ◌++◌, map, reverse, length, Some, None, Option, sym, refl, ap, ◌∙◌, subst, arith}
+use Rattle.std.proofs.Common.{◌≡◌, ℕ, ◌*◌, ◌≤◌, Bool, true, false, cond, not, ltb, List, [], ◌∷◌, reverse, Some, None, Option, refl, ap, ◌∙◌}
 use mathlib.Core.List.{reverse_aux}
 use Rattle.std.proofs.lemmas.Bool.{le-ltb}
 use Rattle.label.specs.declared.refusal.Refusal.{Refusal}
 use Rattle.label.specs.declared.refusal.Refusal.TheVariants.{LabelDoesNotFit, OtherText, SmallBuffer}
 use Rattle.label.specs.Drafts.{matches, left}
-use Rattle.label.specs.Label.{Label}
 use Rattle.carrier.specs.Meaning.{Meaning}
 use Rattle.agreement.specs.Calls.{Call, start, end, send, Made, calls}
 use Rattle.agreement.specs.History.{Event, started, ended, sent, only, behind_label, labels_back, sent_labels, odd, refusal, refusal_on, event, history, history_on, refusals, refusals_on, aired_back, aired_by, vars_of, Enough, Ample}
-use Rattle.agreement.specs.Station.{Vars, new_vars, call_refusal, call_vars, call_step, replies, vars_after, Aired, labels, puts_out, aired}
+use Rattle.agreement.specs.Station.{new_vars, call_refusal, call_vars, call_step, replies, vars_after, Aired, labels, puts_out, aired}
 
 left_ap : {X Y : Type 0} (f : X → Y) (o : Option Refusal) {y : Y} (new old : X) → y ≡ f new → left o y (f old) ≡ f (left o new old)
 left_ap f None new old e = e

@@ -1,5 +1,5 @@
 -- The tests on a history say what their words say.
-use Rattle.std.proofs.Common.{◌≡◌, ℕ, Bool, true, false, cond, List, [], ◌∷◌, ◌++◌, Some, None, sym, refl, ap, ◌∙◌, subst, arith}
+use Rattle.std.proofs.Common.{◌≡◌, ℕ, Bool, true, false, cond, List, [], ◌∷◌, ◌++◌, Some, None, sym, refl, ap, subst, arith}
 use Rattle.label.specs.declared.refusal.Refusal.TheVariants.{ItemStarted, NoItemRuns}
 use Rattle.agreement.specs.History.{Event, started, ended, sent, only, behind_label, start_since_label, item_runs}
 use Rattle.agreement.specs.Words.{NoLabel, OnlyLabels, StartSinceLabel, LastIsStart, HistoryInWords}

@@ -1,5 +1,5 @@
 -- What a display holds, told from the labels that were sent and from nothing else.
-use Rattle.std.specs.Prelude.{◌≡◌, ℕ, ◌≤◌, Bool, true, false, ◌⊎◌, List, [], ◌∷◌, ◌++◌, length, Some, None, Option}
+use Rattle.std.specs.Prelude.{◌≡◌, ℕ, ◌≤◌, Bool, true, false, ◌⊎◌, List, [], ◌∷◌, ◌++◌, length, Some, None}
 use Rattle.label.specs.Classes.{item_class}
 use Rattle.label.specs.Label.{Label, marked, item_deletion}
 use Rattle.label.specs.Tags.{deletion}

@@ -1,5 +1,5 @@
 -- Rules 1 to 3: what a display does on a complete label.
-use Rattle.std.specs.Prelude.{ℕ, Bool, true, false, cond, not, ◌&&◌, ◌||◌, List, [], ◌∷◌, Some, None, Option}
+use Rattle.std.specs.Prelude.{ℕ, Bool, true, cond, not, ◌&&◌, ◌||◌, List, [], ◌∷◌, Some, None, Option}
 use Rattle.std.specs.Bool.{beq}
 use Rattle.label.specs.declared.tag.ItemBits.{ItemBits}
 use Rattle.label.specs.Classes.{item_class}

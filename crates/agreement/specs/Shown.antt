@@ -1,5 +1,5 @@
 -- What a display shows, and what a frame does to it.
-use Rattle.std.specs.Prelude.{ℕ, List, [], ◌∷◌, Some, None, Option}
+use Rattle.std.specs.Prelude.{ℕ, List, Some, None, Option}
 use Rattle.carrier.specs.declared.answer.Answer.{Answer}
 use Rattle.carrier.specs.declared.answer.Answer.TheVariants.{PassedOver, Kept, Complete, Again, Dropped}
 use Rattle.label.specs.Label.{Label}

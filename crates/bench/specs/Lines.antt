@@ -1,5 +1,5 @@
 -- How replies are put into words.
-use Rattle.std.specs.Prelude.{◌≡◌, ℕ, Bool, true, false, cond, List, ◌∷◌, ◌++◌, Ok, Err, vec_items, codes, decimal, Result}
+use Rattle.std.specs.Prelude.{ℕ, cond, List, ◌∷◌, ◌++◌, Ok, Err, vec_items, codes, decimal, Result}
 use Rattle.label.specs.declared.refusal.Refusal.{Refusal}
 use Rattle.label.specs.Refusals.{case_of}
 use Rattle.bench.specs.Digits.{printed}

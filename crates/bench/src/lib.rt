@@ -1,4 +1,6 @@
 // The bench: every public call behind a line of text.
+#![tactic(auto)]
+
 pub mod carriers;
 pub mod command;
 pub mod fault;

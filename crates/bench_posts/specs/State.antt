@@ -1,7 +1,7 @@
 -- What the console holds, and what its commands answer and leave behind.
-use Rattle.std.specs.Prelude.{◌≡◌, ℕ, cond, List, ◌++◌, length, drop, replicate, Some, None, Ok, Err, vec_items, Option, Result, MatchResult}
+use Rattle.std.specs.Prelude.{◌≡◌, ℕ, cond, List, ◌++◌, length, drop, Some, None, Ok, Err, vec_items, Option, Result, MatchResult}
 use Rattle.label.specs.declared.tag.Tag.{Tag}
-use Rattle.label.specs.Drafts.{draft_outline, sealed_outline, opening_refusal, untagged, tagging_refusal, tagged, done, left}
+use Rattle.label.specs.Drafts.{opening_refusal, untagged, tagging_refusal, tagged, done, left}
 use Rattle.label.specs.Label.{Outline, label_of}
 use Rattle.label.specs.declared.refusal.Refusal.{Refusal}
 use Rattle.carrier.specs.Writing.{place, write_refusal}

@@ -1,10 +1,10 @@
 -- What a carrier means, as a value.
-use Rattle.std.specs.Prelude.{◌≡◌, ℕ, Bool, true, false, List, [], ◌∷◌, ◌++◌, length, Some, None, Ok, Err, Option, Result}
+use Rattle.std.specs.Prelude.{◌≡◌, ℕ, Bool, true, false, List, [], length, Some, None, Ok, Err, Option, Result}
 use Rattle.label.specs.Lawful.{sealable}
 use Rattle.label.specs.declared.refusal.Refusal.{Refusal}
 use Rattle.label.specs.declared.tag.ItemBits.{ItemBits}
 use Rattle.label.specs.declared.tag.Tag.{Tag}
-use Rattle.label.specs.Label.{Label, Outline}
+use Rattle.label.specs.Label.{Label}
 use Rattle.carrier.specs.declared.answer.Answer.{Answer}
 use Rattle.carrier.specs.Writing.{Writing}
 

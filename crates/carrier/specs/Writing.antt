@@ -1,5 +1,5 @@
 -- What writing a frame means on any carrier: which labels fit, their frames, and where a frame is put.
-use Rattle.std.specs.Prelude.{ℕ, ◌-◌, Bool, cond, not, List, [], ◌∷◌, ◌++◌, length, replicate, Some, None, Option, nat_le, nat_lt}
+use Rattle.std.specs.Prelude.{ℕ, ◌-◌, Bool, cond, not, List, ◌∷◌, ◌++◌, length, replicate, Some, None, Option, nat_le, nat_lt}
 use Rattle.label.specs.declared.refusal.Refusal.{Refusal}
 use Rattle.label.specs.declared.refusal.Refusal.TheVariants.{LabelDoesNotFit, OtherText, SmallBuffer, NoSuchFrame}
 use Rattle.label.specs.Drafts.{matches}

@@ -1,4 +1,6 @@
 // The console: each line of standard input is answered by a line on standard output.
+#![tactic(auto)]
+
 use bench::state::Bench;
 use std::io;
 use std::io::{BufRead, BufReader, Write};

@@ -1,5 +1,5 @@
 -- Which frame a number names.
-use Rattle.std.proofs.Common.{◌≡◌, ℕ, ◌<◌, ◌≤◌, Bool, length, sym, ap}
+use Rattle.std.proofs.Common.{◌≡◌, ℕ, ◌<◌, ◌≤◌, Bool, length}
 use Rattle.std.proofs.lemmas.Bool.{le-leb, lt-leb}
 use Rattle.label.specs.Label.{Label}
 use Rattle.dab.specs.Frames.{last_segment, text_body, command_body, sent_tags, dab_body}

@@ -1,10 +1,10 @@
 -- Two passes over the tags make the rules.
-use Rattle.std.proofs.Common.{◌≡◌, ℕ, ◌<◌, ◌≤◌, Bool, true, false, cond, not, ◌&&◌, ◌||◌, eqb, ltb, leb, ◌⊎◌, List, [], ◌∷◌, ◌++◌, length, take, Some, None, Option, sym, refl, ap, ◌∙◌, subst, inl, inr, ⊎_elim, arith}
+use Rattle.std.proofs.Common.{◌≡◌, ℕ, ◌≤◌, Bool, true, false, cond, not, ◌&&◌, ◌||◌, eqb, leb, List, [], ◌∷◌, ◌++◌, length, Some, None, Option, sym, refl, ap, ◌∙◌, subst, ⊎_elim, arith}
 use Rattle.std.proofs.lemmas.Bool.{and_parts, both_ways, cases_eq, eq-eqb, ne_eqb, not-true}
 use Rattle.std.proofs.lemmas.Bool.Decides.{nat_tests}
 use Rattle.label.specs.declared.tag.Tag.{Tag}
 use Rattle.label.specs.Classes.{silent, item_class, item_classes}
-use Rattle.label.specs.Label.{Label, part_for, marked, is_deletion, deletes_in, item_deletion}
+use Rattle.label.specs.Label.{Label, part_for, marked, is_deletion, deletes_in}
 use Rattle.label.specs.Lawful.{apart, all_apart, lawful, sealable}
 use Rattle.label.specs.Lists.{all}
 use Rattle.label.specs.Tags.{part, deletion, sounds}

@@ -1,5 +1,5 @@
 -- The rules as two passes over a label's tags, as a loop makes them.
-use Rattle.std.specs.Prelude.{ℕ, Bool, true, false, cond, not, ◌&&◌, ◌||◌, List, [], ◌∷◌, take, ◌==◌, slice_index, slice_index_or}
+use Rattle.std.specs.Prelude.{ℕ, Bool, false, cond, not, ◌&&◌, ◌||◌, List, [], ◌∷◌, take, ◌==◌, slice_index, slice_index_or}
 use Rattle.label.specs.declared.tag.Tag.{Tag}
 use Rattle.label.specs.Classes.{item_class}
 use Rattle.label.specs.Tags.{part, deletion}

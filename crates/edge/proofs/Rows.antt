@@ -1,5 +1,5 @@
 -- The rows of the table: most compute.
-use Rattle.std.proofs.Common.{◌≡◌, ℕ, ◌+◌, Bool, true, false, cond, not, ◌&&◌, ◌||◌, eqb, leb, List, [], ◌∷◌, length, refl, ap, ◌∙◌, arith, le-leb}
+use Rattle.std.proofs.Common.{◌≡◌, ℕ, ◌+◌, Bool, true, false, cond, not, ◌&&◌, ◌||◌, eqb, leb, [], length, refl, ap, ◌∙◌, arith, le-leb}
 use mathlib.Core.Bool.{beq, xor}
 use Rattle.label.specs.Label.{Label, marked, deletes_in, is_deletion, item_deletion}
 use Rattle.agreement.specs.Rules.{Table, breaks, emptied, stored, rule_1, rule_2, on_labels}

@@ -1,5 +1,5 @@
 -- What drafts answer over the ten bytes of the sill's text.
-use Rattle.std.specs.Prelude.{◌≡◌, ℕ, false, cond, List, [], ◌∷◌, length, Some, None, Ok, Err, Option, Result, nat_le}
+use Rattle.std.specs.Prelude.{◌≡◌, ℕ, false, cond, [], ◌∷◌, length, Some, None, Ok, Err, Option, Result, nat_le}
 use Rattle.label.specs.declared.refusal.Refusal.{Refusal}
 use Rattle.label.specs.declared.refusal.Refusal.TheVariants.{PartLeavesText, SharedPosition}
 use Rattle.label.specs.declared.sealed.Sealed.{Sealed}

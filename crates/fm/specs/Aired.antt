@@ -1,6 +1,6 @@
 -- What FM sends is the label: dummies and the change of places mean nothing.
 use Rattle.std.specs.Prelude.{◌≡◌, ℕ, ◌+◌, ◌≤◌, Bool, true, false, cond, not, ◌&&◌, ◌||◌, List, [], ◌∷◌, length, nat_lt, refl}
-use Rattle.std.proofs.Common.{sym, ap, ◌∙◌, inl, arith}
+use Rattle.std.proofs.Common.{ap, ◌∙◌, inl, arith}
 use Rattle.std.proofs.lemmas.Bool.{and_parts}
 use Rattle.label.specs.declared.tag.Tag.{Tag}
 use Rattle.label.specs.Classes.{silent}

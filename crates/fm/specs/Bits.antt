@@ -1,18 +1,16 @@
 -- The 37 bits of a tag group, there and back.
-use Rattle.std.specs.Prelude.{◌≡◌, ℕ, suc, ◌+◌, ◌-◌, ◌*◌, ◌/◌, ◌%◌, ◌<◌, ◌≤◌, Bool, true, false, cond, not, ◌&&◌, ◌||◌, ◌⊎◌, List, [], ◌∷◌, ◌++◌, length, ◌==◌, nat_eq, nat_le, nat_lt, refl}
+use Rattle.std.specs.Prelude.{◌≡◌, ℕ, ◌+◌, ◌*◌, ◌/◌, ◌%◌, ◌<◌, ◌≤◌, Bool, true, false, cond, not, ◌&&◌, ◌||◌, ◌⊎◌, List, [], ◌∷◌, length, ◌==◌, nat_eq, nat_le, nat_lt, refl}
 use Rattle.std.proofs.Common.{sym, ap, ◌∙◌, inl, inr, ⊎_elim, arith}
 use Rattle.std.proofs.lemmas.Bool.{and_parts, or_parts, leb-true, ltb-true, ltb-false, not-true, lt-ltb, both_ways}
-use Rattle.std.proofs.lemmas.Bool.Decides.{nat_tests}
 use Rattle.label.specs.declared.tag.Tag.{Tag}
 use Rattle.label.specs.declared.tag.ItemBits.{ItemBits}
 use Rattle.label.specs.Classes.{silent}
 use Rattle.label.specs.Label.{Label}
-use Rattle.label.specs.Lawful.{apart, all_apart, accompanied, lawful_sounding, lawful, sealable}
+use Rattle.label.specs.Lawful.{apart, all_apart, accompanied, lawful_sounding, lawful}
 use Rattle.label.specs.Lists.{all}
 use Rattle.label.specs.Tags.{behind, lies_in, sounds, shares, of_class}
 use Rattle.label.proofs.Sounding.{sounding_all}
 use Rattle.carrier.specs.Hearing.{Sendable}
-use Rattle.taking.specs.Taking.{Tags}
 use Rattle.fm.specs.Frames.{dummy, first_tag, second_tag, sent_tags, tag_bits, bits_frame}
 use Rattle.fm.specs.Taking.{fm, read_bits, unpacked}
 

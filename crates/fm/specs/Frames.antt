@@ -1,8 +1,8 @@
 -- RadioText and RT+: the frames that FM sends for a label. A frame is four blocks of 16 bits, high byte first.
-use Rattle.std.specs.Prelude.{ℕ, suc, ◌+◌, ◌*◌, ◌/◌, ◌^◌, Bool, cond, ◌&&◌, List, [], ◌∷◌, ◌++◌, length, take, drop, ◌==◌, nat_le, nat_lt}
+use Rattle.std.specs.Prelude.{ℕ, ◌+◌, ◌*◌, ◌/◌, ◌^◌, Bool, cond, ◌&&◌, List, [], ◌∷◌, ◌++◌, length, take, drop, ◌==◌, nat_le, nat_lt}
 use Rattle.label.specs.declared.tag.Tag.{Tag}
 use Rattle.label.specs.declared.tag.ItemBits.{ItemBits}
-use Rattle.label.specs.Label.{Label, Outline}
+use Rattle.label.specs.Label.{Label}
 use Rattle.carrier.specs.Fields.{field, flag, word, octets}
 use Rattle.carrier.specs.Writing.{Writing}
 

@@ -1,5 +1,5 @@
 -- What FM's arrays stand for.
-use Rattle.std.specs.Prelude.{◌≡◌, ℕ, ◌*◌, ◌<◌, ◌≤◌, Bool, true, false, cond, List, [], length, take, drop, Some, None, Option, slice_index_or}
+use Rattle.std.specs.Prelude.{◌≡◌, ℕ, ◌*◌, ◌<◌, ◌≤◌, Bool, true, false, cond, List, length, take, drop, Some, None, Option, slice_index_or}
 use Rattle.fm.specs.declared.text.FmPiece.{FmPiece}
 use Rattle.fm.specs.declared.text.FmText.{FmText}
 use Rattle.taking.specs.Segments.{Numbered, Held}

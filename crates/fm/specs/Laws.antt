@@ -1,14 +1,14 @@
 -- FM shows the laws of every carrier.
-use Rattle.std.specs.Prelude.{◌≡◌, ℕ, zero, suc, ◌+◌, ◌-◌, ◌*◌, ◌/◌, ◌%◌, ◌<◌, ◌≤◌, Bool, true, false, cond, not, ◌&&◌, ◌||◌, ◌⊎◌, List, [], ◌∷◌, ◌++◌, length, drop, is_some, Some, None, Option, ◌==◌, nat_le, nat_lt, slice_index, refl}
-use Rattle.std.proofs.Common.{sym, ap, subst, ◌∙◌, inl, inr, ⊎_elim, arith, length-take, length-drop}
-use Rattle.std.proofs.lemmas.Bool.{and_parts, and_left, eq-eqb, ne_eqb, le-leb, lt-leb, leb-true, cond-true, cond-false, cases_lt, cases_eq}
+use Rattle.std.specs.Prelude.{◌≡◌, ℕ, suc, ◌+◌, ◌*◌, ◌/◌, ◌%◌, ◌<◌, ◌≤◌, Bool, true, false, cond, ◌&&◌, List, [], ◌∷◌, length, drop, is_some, Some, None, ◌==◌, nat_le, nat_lt, slice_index, refl}
+use Rattle.std.proofs.Common.{sym, ap, subst, ◌∙◌, ⊎_elim, arith, length-take, length-drop}
+use Rattle.std.proofs.lemmas.Bool.{and_parts, eq-eqb, ne_eqb, le-leb, lt-leb, leb-true, cond-true, cond-false, cases_lt, cases_eq}
 use Rattle.label.specs.declared.refusal.Refusal.TheVariants.{WrongSize, UnusableGroup}
 use Rattle.label.specs.declared.tag.Tag.{Tag}
 use Rattle.label.specs.Label.{Label}
 use Rattle.carrier.specs.declared.answer.Answer.{Answer}
 use Rattle.carrier.specs.declared.answer.Answer.TheVariants.{PassedOver, Kept, Complete, Again, Dropped}
 use Rattle.carrier.specs.Answers.{answer_case}
-use Rattle.carrier.specs.Hearing.{frames_of, outline_of, completed, Begins, Numbers, Hears, Sendable, Lawful}
+use Rattle.carrier.specs.Hearing.{frames_of, completed, Begins, Numbers, Hears, Sendable, Lawful}
 use Rattle.carrier.specs.Meaning.{Outcome, answered, refused, next}
 use Rattle.taking.specs.Events.{Event, piece, tags, aside, on_event, completed_here, Within, Carries}
 use Rattle.taking.specs.Segments.{Held, numbered}
@@ -17,11 +17,11 @@ use Rattle.taking.proofs.Carried.{hears, tags_after}
 use Rattle.taking.proofs.Idling.{Still, still_same, still_refused, still_answer, still_cond, still_text, still_tags}
 use Rattle.taking.proofs.Joining.{Part, Has, segment_pieces}
 use Rattle.taking.proofs.Telling.{Tells, tells_cond, tells_refused, tells_other, tells_text, tells_tags}
-use Rattle.fm.specs.Frames.{application, last_segment, closed, segment, text_frame, announcing_frame, sent_tags, first_tag, second_tag, tag_bits, bits_frame, tags_frame, fm_frame, fm_writing}
-use Rattle.fm.specs.Taking.{FmState, group_of, version_of, own_bits, announces, ert_flag, usable, lifted, with_group, learns, has_learnt, text_toggle, text_piece, read_bits, unpacked, step_a, fm_step, fm, fm_air, fm_event}
+use Rattle.fm.specs.Frames.{application, last_segment, closed, segment, text_frame, announcing_frame, sent_tags, first_tag, second_tag, bits_frame, tags_frame, fm_frame}
+use Rattle.fm.specs.Taking.{FmState, group_of, version_of, own_bits, announces, ert_flag, usable, lifted, with_group, has_learnt, text_toggle, text_piece, read_bits, unpacked, step_a, fm_step, fm, fm_air, fm_event}
 use Rattle.fm.specs.Text.{fm_segments, fm_pieces}
 use Rattle.fm.specs.Aired.{fm_airs}
-use Rattle.fm.specs.Bits.{Fitting, fm_fitting, tags_read, bits_small}
+use Rattle.fm.specs.Bits.{fm_fitting, tags_read, bits_small}
 use Rattle.fm.specs.Closed.{closed_length}
 use Rattle.fm.specs.FramesLemmas.{text_at, announcing_at, tags_at, last_few}
 use Rattle.fm.specs.Texts.{fm_text}

@@ -1,5 +1,5 @@
 -- What taking a frame does on FM.
-use Rattle.std.specs.Prelude.{ℕ, suc, ◌+◌, ◌*◌, ◌/◌, ◌%◌, Bool, true, false, cond, ◌&&◌, ◌||◌, List, [], ◌∷◌, length, drop, Some, None, Option, ◌==◌, nat_le, slice_index}
+use Rattle.std.specs.Prelude.{ℕ, suc, ◌+◌, ◌*◌, ◌/◌, ◌%◌, Bool, false, cond, ◌&&◌, ◌||◌, List, [], ◌∷◌, length, drop, Some, None, Option, ◌==◌, nat_le, slice_index}
 use Rattle.label.specs.declared.refusal.Refusal.TheVariants.{WrongSize, UnusableGroup}
 use Rattle.label.specs.Classes.{between}
 use Rattle.label.specs.Label.{Label}

@@ -1,5 +1,5 @@
 -- How FM puts a text together: 16 segments of four bytes, and a 0x0D that closes a shorter text.
-use Rattle.std.specs.Prelude.{ℕ, Bool, true, false, cond, ◌||◌, List, [], ◌∷◌, Some, None, Option, ◌==◌}
+use Rattle.std.specs.Prelude.{ℕ, Bool, false, cond, ◌||◌, List, [], ◌∷◌, Some, ◌==◌}
 use Rattle.taking.specs.declared.look.Look.TheVariants.{Behind}
 use Rattle.taking.specs.Bytes.{same_bytes}
 use Rattle.taking.specs.Pieces.{Pieces}

@@ -1,5 +1,5 @@
 -- A text read into a buffer of 128 bytes is the front of that buffer.
-use Rattle.std.proofs.Common.{◌≡◌, ℕ, ◌-◌, Bool, true, false, cond, ltb, List, ◌++◌, length, take, drop, Some, None, Ok, Err, Result, ap, ◌∙◌, arith}
+use Rattle.std.proofs.Common.{◌≡◌, ℕ, ◌-◌, Bool, true, false, cond, ltb, List, ◌++◌, length, take, drop, Some, None, Ok, Result, ap, ◌∙◌, arith}
 use Rattle.std.proofs.lemmas.List.{take_at}
 use Rattle.label.specs.Drafts.{done, left}
 use Rattle.label.specs.declared.refusal.Refusal.{Refusal}

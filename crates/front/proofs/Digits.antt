@@ -1,10 +1,9 @@
 -- The digits of a depth, and the depth of digits.
-use Rattle.std.proofs.Common.{◌≡◌, ℕ, ◌+◌, ◌-◌, ◌*◌, ◌/◌, ◌%◌, ◌<◌, ◌≤◌, Bool, true, false, cond, ◌&&◌, eqb, leb, ◌⊎◌, List, [], ◌∷◌, sym, refl, ap, ◌∙◌, inl, inr, ⊎_elim, arith}
+use Rattle.std.proofs.Common.{◌≡◌, ℕ, ◌+◌, ◌*◌, ◌/◌, ◌%◌, ◌<◌, ◌≤◌, Bool, true, false, cond, ◌&&◌, eqb, leb, List, [], ◌∷◌, refl, ap, ◌∙◌, inl, inr, arith}
 use Rattle.std.proofs.lemmas.Bool.{and_parts, and_from, leb-true, eqb-true, le-leb, cond-true}
-use Rattle.front.specs.declared.record.Record.{Record}
 use Rattle.front.specs.declared.record.Record.TheVariants.{Reading, Dashes}
 use Rattle.front.specs.Reading.{digit, value, figures, reading_of}
-use Rattle.front.specs.Written.{short, long, Writes, ReadsAsWritten}
+use Rattle.front.specs.Written.{Writes}
 
 is_digit : (d : ℕ) → d < 10 → digit (0x30 + d) ≡ true
 is_digit d h = and_from (leb 0x30 (0x30 + d)) (leb (0x30 + d) 0x39) (le-leb _ _ (omega arith)) (le-leb _ _ (omega arith))

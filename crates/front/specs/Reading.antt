@@ -1,5 +1,5 @@
 -- What the front reads in a text: tenths of a metre, if the whole text is one or two digits, a point and one digit.
-use Rattle.std.specs.Prelude.{◌≡◌, ℕ, ◌+◌, ◌-◌, ◌*◌, ◌/◌, ◌%◌, ◌<◌, Bool, cond, ◌&&◌, List, [], ◌∷◌, ◌==◌, nat_le}
+use Rattle.std.specs.Prelude.{ℕ, ◌+◌, ◌-◌, ◌*◌, Bool, cond, ◌&&◌, List, [], ◌∷◌, ◌==◌, nat_le}
 use Rattle.front.specs.declared.record.Record.{Record}
 use Rattle.front.specs.declared.record.Record.TheVariants.{Reading, Dashes}
 

@@ -1,11 +1,11 @@
 -- Labels that are the same mark the same.
-use Rattle.std.proofs.Common.{◌≡◌, ℕ, Bool, true, false, cond, not, ◌&&◌, ◌||◌, eqb, leb, ◌⊎◌, List, [], ◌∷◌, length, Some, None, Option, sym, refl, ap, ◌∙◌, inl, inr, ⊎_elim, arith}
+use Rattle.std.proofs.Common.{◌≡◌, ℕ, Bool, true, false, cond, not, ◌&&◌, eqb, leb, ◌⊎◌, List, [], ◌∷◌, length, Some, None, Option, sym, refl, ap, ◌∙◌, inl, inr, ⊎_elim, arith}
 use Rattle.std.proofs.lemmas.Bool.{and_parts, and_from, or_cases, or_left, or_right, eq-eqb, eqb-true, not-true, cond-true, cond-false, cases_Bool, ne_eqb, both_ways}
 use Rattle.label.specs.declared.tag.Tag.{Tag}
 use Rattle.label.specs.Classes.{silent}
-use Rattle.label.specs.Lists.{any, all}
+use Rattle.label.specs.Lists.{all}
 use Rattle.label.specs.Label.{Label, Same, part_for, marked}
-use Rattle.label.specs.Lawful.{apart, all_apart, accompanied, lawful_sounding, lawful, sealable}
+use Rattle.label.specs.Lawful.{apart, all_apart, accompanied, lawful, sealable}
 use Rattle.label.specs.Tags.{part, lies_in, shares, of_class, sounds, sounding, same_tag, has}
 
 tag_is : (t u : Tag) → same_tag t u ≡ true → t ≡ u

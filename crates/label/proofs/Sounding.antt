@@ -6,7 +6,7 @@ use Rattle.std.proofs.lemmas.Bool.{and_parts, and_from, not-true, le-leb}
 use Rattle.std.proofs.lemmas.Bool.Decides.{nat_tests}
 use Rattle.label.specs.declared.tag.Tag.{Tag}
 use Rattle.label.specs.Lists.{any, all}
-use Rattle.label.specs.Tags.{sounds, sounding, is_descriptor, is_other, lies_in}
+use Rattle.label.specs.Tags.{sounds, sounding, is_descriptor, is_other}
 use Rattle.label.specs.Lawful.{apart, all_apart, accompanied, lawful_sounding, lawful, sealable}
 
 pub any_sounding : (p : Tag → Bool) (ts : List Tag) → any (λ t. sounds t && p t) ts ≡ any p (sounding ts)

@@ -1,14 +1,12 @@
 -- A tag that is not refused keeps a draft's list lawful.
-use Rattle.std.proofs.Common.{◌≡◌, ℕ, ◌+◌, ◌<◌, ◌≤◌, Bool, true, false, cond, not, ◌&&◌, ◌||◌, eqb, ltb, leb, List, [], ◌∷◌, ◌++◌, length, Some, None, Option, sym, refl, ap, ◌∙◌, arith}
+use Rattle.std.proofs.Common.{◌≡◌, ℕ, ◌<◌, ◌≤◌, Bool, true, false, cond, not, ◌&&◌, ◌||◌, leb, List, [], ◌∷◌, ◌++◌, length, Some, None, Option, sym, refl, ap, ◌∙◌, arith}
 use Rattle.std.proofs.lemmas.List.{length-append}
-use Rattle.std.proofs.lemmas.Bool.{or_parts, and_parts, and_from, or_from, not-true, not-false, leb-false, leb-true, le-leb}
+use Rattle.std.proofs.lemmas.Bool.{or_parts, and_parts, and_from, leb-false, le-leb}
 use Rattle.std.proofs.lemmas.Bool.Decides.{nat_tests}
 use Rattle.label.specs.declared.refusal.Refusal.{Refusal}
 use Rattle.label.specs.declared.tag.Tag.{Tag}
-use Rattle.label.specs.Classes.{silent}
 use Rattle.label.specs.Lists.{any, all}
-use Rattle.label.specs.Label.{Outline}
-use Rattle.label.specs.Tags.{behind, lies_in, sounds, sounding, shares, of_class, is_descriptor, is_other}
+use Rattle.label.specs.Tags.{lies_in, sounds, shares, of_class, is_descriptor, is_other}
 use Rattle.label.specs.Lawful.{apart, all_apart, accompanied, lawful_sounding, lawful, sealable}
 use Rattle.label.specs.Drafts.{tagging_refusal}
 use Rattle.label.proofs.Sounding.{sounding_all}

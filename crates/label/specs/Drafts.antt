@@ -1,12 +1,12 @@
 -- Drafts and sealed labels: what they hold, and what opening, tagging and matching a text answer.
-use Rattle.std.specs.Prelude.{◌≡◌, ℕ, Bool, true, false, cond, not, ◌&&◌, ◌||◌, List, [], ◌∷◌, ◌++◌, length, take, Some, None, Ok, Err, Option, Result, ◌==◌, nat_le, nat_lt}
+use Rattle.std.specs.Prelude.{◌≡◌, ℕ, Bool, cond, not, ◌&&◌, List, [], ◌∷◌, ◌++◌, length, take, Some, None, Ok, Err, Option, Result, ◌==◌, nat_le, nat_lt}
 use Rattle.label.specs.declared.refusal.Refusal.{Refusal}
 use Rattle.label.specs.declared.refusal.Refusal.TheVariants.{NoText, TextTooLong, ControlByte, SilentClass, PartLeavesText, SharedPosition, ClassAlreadyIn, LoneDescriptor, FourTagsIn}
 use Rattle.label.specs.declared.sealed.Draft.{Draft}
 use Rattle.label.specs.declared.sealed.Sealed.{Sealed}
 use Rattle.label.specs.declared.tag.Tag.{Tag}
 use Rattle.label.specs.Classes.{silent}
-use Rattle.label.specs.Lists.{any, all}
+use Rattle.label.specs.Lists.{any}
 use Rattle.label.specs.Label.{Outline}
 use Rattle.label.specs.Tags.{lies_in, shares, of_class, is_descriptor, is_other}
 

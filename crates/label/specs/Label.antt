@@ -1,5 +1,5 @@
 -- A label as it goes on the air: its text, its tags and its item bits.
-use Rattle.std.specs.Prelude.{◌≡◌, ℕ, ◌≤◌, Bool, true, false, cond, not, List, [], ◌∷◌, length, Some, None, Option, ◌==◌}
+use Rattle.std.specs.Prelude.{◌≡◌, ℕ, Bool, false, cond, List, [], ◌∷◌, Some, None, Option, ◌==◌}
 use Rattle.label.specs.declared.tag.Tag.{Tag}
 use Rattle.label.specs.declared.tag.ItemBits.{ItemBits}
 use Rattle.label.specs.Classes.{silent, item_classes}

@@ -1,5 +1,5 @@
 -- Which lists of tags are lawful for a text.
-use Rattle.std.specs.Prelude.{ℕ, Bool, true, false, not, ◌&&◌, ◌||◌, List, [], ◌∷◌, length, nat_le}
+use Rattle.std.specs.Prelude.{ℕ, Bool, true, not, ◌&&◌, ◌||◌, List, [], ◌∷◌, length, nat_le}
 use Rattle.label.specs.declared.tag.Tag.{Tag}
 use Rattle.label.specs.Lists.{any, all}
 use Rattle.label.specs.Tags.{lies_in, sounds, sounding, shares, of_class, is_descriptor, is_other}

@@ -1,5 +1,5 @@
 -- Tags and the parts that they mark.
-use Rattle.std.specs.Prelude.{ℕ, ◌+◌, Bool, true, false, cond, not, ◌&&◌, ◌||◌, List, [], ◌∷◌, take, drop, ◌==◌, nat_le, nat_lt}
+use Rattle.std.specs.Prelude.{ℕ, ◌+◌, Bool, false, cond, not, ◌&&◌, List, [], ◌∷◌, take, drop, ◌==◌, nat_le, nat_lt}
 use Rattle.label.specs.declared.tag.Tag.{Tag}
 use Rattle.label.specs.Classes.{silent, descriptor}
 use Rattle.label.specs.Lists.{any, all}

@@ -1,5 +1,5 @@
 -- What a row of digits writes, and the tenths of a decimal number.
-use Rattle.std.proofs.Common.{◌≡◌, ℕ, zero, suc, ◌+◌, ◌-◌, ◌*◌, ◌/◌, ◌^◌, ◌<◌, ◌≤◌, min, Bool, true, false, cond, ◌&&◌, eqb, leb, ◌⊎◌, List, [], ◌∷◌, ◌++◌, length, get_or, Ok, Err, fold, sym, refl, ap, ◌∙◌, inl, inr, ⊎_elim, add_assoc, mul_assoc, mul_comm, add-mul, pow-suc, zero-add, zero-mul, le-mul_of_pos_right, div-one, arith}
+use Rattle.std.proofs.Common.{◌≡◌, ℕ, zero, suc, ◌+◌, ◌-◌, ◌*◌, ◌^◌, ◌<◌, ◌≤◌, min, Bool, true, false, cond, eqb, leb, List, [], ◌∷◌, ◌++◌, length, get_or, Ok, Err, fold, sym, refl, ap, ◌∙◌, ⊎_elim, mul_assoc, mul_comm, add-mul, pow-suc, zero-mul, le-mul_of_pos_right, div-one, arith}
 use native.Mathlib.Nat.{mul-div-mul_right}
 use lib.Arith.{digits_lt, digits_div}
 use Rattle.std.specs.List.{prefix_len}

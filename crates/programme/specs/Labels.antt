@@ -1,5 +1,5 @@
 -- The label that an entry is sent as: its text and the tags that mark parts of it.
-use Rattle.std.specs.Prelude.{◌≡◌, ℕ, ◌+◌, ◌-◌, ◌/◌, ◌%◌, Bool, cond, ◌||◌, ◌⊎◌, List, [], ◌∷◌, ◌++◌, map, length, take, drop, Some, None, Ok, Err, vec_items, codes, Option, Result, MatchOption, ◌==◌, nat_lt}
+use Rattle.std.specs.Prelude.{◌≡◌, ℕ, ◌+◌, ◌-◌, ◌/◌, ◌%◌, cond, ◌||◌, ◌⊎◌, List, [], ◌∷◌, ◌++◌, map, length, take, drop, None, Ok, Err, vec_items, codes, Option, Result, MatchOption, ◌==◌, nat_lt}
 use Rattle.label.specs.declared.tag.Tag.{Tag}
 use Rattle.programme.specs.declared.composed.Composed.{Composed}
 use Rattle.programme.specs.declared.fault.Fault.{Fault}

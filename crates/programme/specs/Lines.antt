@@ -1,5 +1,5 @@
 -- What a line of the programme says, or why it is refused.
-use Rattle.std.specs.Prelude.{ℕ, ◌+◌, Bool, true, false, cond, ◌&&◌, ◌||◌, List, [], ◌∷◌, length, take, drop, Ok, Err, codes, Result, ◌==◌, nat_lt, slice_index}
+use Rattle.std.specs.Prelude.{ℕ, ◌+◌, false, cond, ◌||◌, List, length, take, drop, Ok, Err, codes, Result, ◌==◌, nat_lt, slice_index}
 use Rattle.std.specs.Str.{bytes_eq}
 use Rattle.programme.specs.declared.entry.Entry.{Entry}
 use Rattle.programme.specs.declared.entry.Entry.TheVariants.{Nothing, Reading, Song, Announcement}

@@ -1,5 +1,5 @@
 -- Parts of a row of bytes: words, fields, and what stands around them.
-use Rattle.std.specs.Prelude.{ℕ, suc, ◌+◌, ◌-◌, Bool, true, false, cond, not, ◌&&◌, List, [], ◌∷◌, length, take, drop, ◌==◌, nat_le, slice_index}
+use Rattle.std.specs.Prelude.{ℕ, suc, ◌-◌, Bool, cond, not, ◌&&◌, List, [], ◌∷◌, length, take, drop, ◌==◌, nat_le, slice_index}
 use Rattle.std.specs.List.{prefix_len, suffix_len}
 
 abbrev pub is_space : ℕ → Bool

@@ -1,5 +1,5 @@
 -- What a reading's time looks like: 6:00, 06:00 or 06:00:00, alone or behind a date.
-use Rattle.std.specs.Prelude.{ℕ, Bool, true, false, cond, not, ◌&&◌, ◌||◌, List, [], ◌∷◌, length, drop, ◌==◌, nat_lt, slice_index, slice_index_or}
+use Rattle.std.specs.Prelude.{ℕ, Bool, false, cond, not, ◌&&◌, ◌||◌, List, [], ◌∷◌, length, drop, ◌==◌, nat_lt, slice_index, slice_index_or}
 use Rattle.programme.specs.Numerals.{is_digit}
 use Rattle.programme.specs.Rows.{is_space}
 

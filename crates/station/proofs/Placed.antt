@@ -1,5 +1,5 @@
 -- The places that sending writes, one more at a time.
-use Rattle.std.proofs.Common.{◌≡◌, ℕ, zero, suc, ◌+◌, ◌-◌, ◌*◌, ◌<◌, ◌≤◌, Bool, true, false, cond, not, ◌&&◌, eqb, ltb, leb, List, [], ◌∷◌, ◌++◌, length, take, drop, replicate, Some, None, Option, sym, refl, ap, ◌∙◌, subst, append_assoc, append-nil, add-one, arith, length-append, length-drop, length-take}
+use Rattle.std.proofs.Common.{◌≡◌, ℕ, zero, suc, ◌+◌, ◌-◌, ◌*◌, ◌<◌, ◌≤◌, Bool, true, not, eqb, ltb, leb, List, [], ◌∷◌, ◌++◌, length, take, drop, Some, None, sym, refl, ap, ◌∙◌, subst, append_assoc, append-nil, add-one, arith, length-append, length-drop, length-take}
 use lib.ListN.{length-replicate}
 use borrow.Rule.Slice.PartMut.{put_mid}
 use Rattle.std.proofs.lemmas.List.{take_at, drop_at, drop-drop}
@@ -7,8 +7,8 @@ use Rattle.std.proofs.lemmas.Bool.{lt-leb, le-ltb, eqb-true, and_parts, cond-fal
 use Rattle.label.specs.declared.refusal.Refusal.TheVariants.{LabelDoesNotFit, OtherText, SmallBuffer, NoSuchFrame}
 use Rattle.label.specs.declared.tag.ItemBits.{ItemBits}
 use Rattle.label.specs.Drafts.{matches, left}
-use Rattle.label.specs.Label.{label_of, Outline}
-use Rattle.carrier.specs.Hearing.{Lawful, Sendable}
+use Rattle.label.specs.Label.{label_of}
+use Rattle.carrier.specs.Hearing.{Lawful}
 use Rattle.carrier.specs.Meaning.{Meaning}
 use Rattle.carrier.specs.Writing.{place, write_refusal}
 use Rattle.agreement.specs.Calls.{Ready}

@@ -1,14 +1,12 @@
 -- The shared taking rules give the hearing laws, for any pieces and any label.
-use Rattle.std.proofs.Common.{◌≡◌, ℕ, suc, ◌+◌, ◌-◌, ◌<◌, ◌≤◌, Bool, true, false, cond, not, ◌&&◌, ◌||◌, eqb, ◌⊎◌, List, [], ◌∷◌, ◌++◌, length, Some, None, Option, sym, refl, ap, ◌∙◌, subst, inl, inr, ⊎_elim, arith}
+use Rattle.std.proofs.Common.{◌≡◌, ℕ, ◌<◌, Bool, true, false, cond, ◌⊎◌, List, [], ◌∷◌, ◌++◌, Some, None, Option, sym, refl, ap, ◌∙◌, subst, inl, inr, ⊎_elim, arith}
 use mathlib.Core.Bool.{beq}
-use Rattle.std.proofs.lemmas.Bool.{eq-eqb, and_parts, and_from, or_left, or_right, cases_Bool}
+use Rattle.std.proofs.lemmas.Bool.{eq-eqb, and_parts, and_from, or_left, or_right}
 use Rattle.carrier.specs.Hearing.{AtMostOnce, IsLabel, Once}
 use Rattle.carrier.specs.Meaning.{answered, next, refused}
 use Rattle.carrier.specs.declared.answer.Answer.TheVariants.{Again, Complete, Dropped, Kept}
-use Rattle.label.specs.Classes.{silent}
 use Rattle.label.specs.Label.{Label}
-use Rattle.label.specs.Lawful.{lawful}
-use Rattle.label.specs.Tags.{alike, has, has_all, same_tag, sounding}
+use Rattle.label.specs.Tags.{has, has_all, same_tag, sounding}
 use Rattle.label.specs.declared.refusal.Refusal.TheVariants.{TagsUnlawful, TagsUnlike}
 use Rattle.label.specs.declared.tag.Tag.{Tag}
 use Rattle.label.proofs.Sounding.{sounding_again}

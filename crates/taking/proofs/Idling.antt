@@ -1,5 +1,5 @@
 -- The states that follow the answers of the shared steps.
-use Rattle.std.proofs.Common.{◌≡◌, ℕ, Bool, true, false, cond, List, length, Some, None, Option, sym, refl, ap, ◌∙◌, subst, arith}
+use Rattle.std.proofs.Common.{◌≡◌, ℕ, Bool, true, false, cond, List, length, Some, None, Option, refl, subst, arith}
 use Rattle.carrier.specs.Answers.{answer_case}
 use Rattle.carrier.specs.Meaning.{Outcome, answered, refused}
 use Rattle.carrier.specs.declared.answer.Answer.TheVariants.{Again, Complete, Dropped, Kept, PassedOver}

@@ -1,5 +1,5 @@
 -- The segments of a text are pieces of it.
-use Rattle.std.proofs.Common.{◌≡◌, ℕ, zero, suc, ◌+◌, ◌-◌, ◌<◌, ◌≤◌, Bool, true, false, cond, ◌&&◌, ◌||◌, eqb, ◌⊎◌, List, [], ◌∷◌, ◌++◌, Some, None, Option, sym, refl, ap, ◌∙◌, subst, inl, inr, ⊎_elim, arith}
+use Rattle.std.proofs.Common.{◌≡◌, ℕ, zero, suc, ◌+◌, ◌-◌, ◌<◌, true, false, cond, ◌&&◌, eqb, ◌⊎◌, List, [], ◌++◌, Some, None, Option, sym, refl, ap, ◌∙◌, subst, inl, inr, ⊎_elim, arith}
 use Rattle.std.proofs.lemmas.Bool.{eq-eqb, eqb-true, or_from, and_left, and_right, cases_Bool, cases_lt, cond-true, cond-false}
 use Rattle.taking.specs.Pieces.{PiecesOf}
 use Rattle.taking.specs.Segments.{Held, Numbered, Segments, SegmentsOf, all_bytes, any_from, ends_at, ends_below, in_segments, is_held, joined, look_at, look_segment, numbered, put_segment, read_from, read_one}

@@ -1,5 +1,5 @@
 -- Answer 2 comes with a label told.
-use Rattle.std.proofs.Common.{◌≡◌, ℕ, Bool, true, false, cond, List, length, is_some, Some, None, Option, sym, refl, ap, ◌∙◌, arith}
+use Rattle.std.proofs.Common.{◌≡◌, ℕ, Bool, true, false, cond, List, length, is_some, Some, None, Option, refl, ap, ◌∙◌, arith}
 use Rattle.label.specs.declared.refusal.Refusal.{Refusal}
 use Rattle.label.specs.Label.{Label}
 use Rattle.label.specs.Lawful.{lawful}

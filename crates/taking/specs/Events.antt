@@ -1,5 +1,5 @@
 -- Hearings as the shared taking rules see them, and how a carrier's frames come down to them.
-use Rattle.std.specs.Prelude.{◌≡◌, ℕ, ◌<◌, ◌≤◌, Bool, true, false, ◌⊎◌, List, [], ◌∷◌, ◌++◌, length, Some, None, Option}
+use Rattle.std.specs.Prelude.{◌≡◌, ℕ, ◌<◌, ◌≤◌, Bool, true, ◌⊎◌, List, [], ◌∷◌, ◌++◌, length, Some, None, Option}
 use Rattle.carrier.specs.Hearing.{AtMostOnce, Full, IsLabel, Numbers, Once, completed, completed_at, frames_of}
 use Rattle.carrier.specs.Meaning.{Meaning, Outcome, answered, next, refused}
 use Rattle.carrier.specs.declared.answer.Answer.TheVariants.{Kept}

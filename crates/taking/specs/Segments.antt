@@ -1,5 +1,5 @@
 -- Texts put together from numbered segments.
-use Rattle.std.specs.Prelude.{◌≡◌, ℕ, zero, suc, ◌+◌, ◌-◌, ◌<◌, ◌≤◌, Bool, true, false, cond, ◌&&◌, ◌||◌, ◌⊎◌, List, [], ◌∷◌, ◌++◌, Some, None, Option, ◌==◌}
+use Rattle.std.specs.Prelude.{◌≡◌, ℕ, zero, suc, ◌-◌, ◌<◌, Bool, true, false, cond, ◌&&◌, ◌||◌, ◌⊎◌, List, [], ◌++◌, Some, None, Option, ◌==◌}
 use Rattle.taking.specs.Pieces.{Pieces}
 use Rattle.taking.specs.declared.look.Look.TheVariants.{Equal, Fresh, Unlike}
 use Rattle.taking.specs.declared.look.Look.{Look}

@@ -1,5 +1,5 @@
 -- What taking does on every carrier: the standing toggle, forgetting, tags that wait, completing.
-use Rattle.std.specs.Prelude.{◌≡◌, ℕ, Bool, true, false, cond, ◌&&◌, List, length, Some, None, Option}
+use Rattle.std.specs.Prelude.{ℕ, Bool, false, cond, ◌&&◌, List, length, Some, None, Option}
 use Rattle.std.specs.Bool.{beq}
 use Rattle.carrier.specs.Meaning.{Outcome, answered, refused}
 use Rattle.carrier.specs.declared.answer.Answer.TheVariants.{Again, Complete, Dropped, Kept, PassedOver}

@@ -1,5 +1,5 @@
 -- What the structs of the taking side stand for.
-use Rattle.std.specs.Prelude.{◌≡◌, ℕ, ◌≤◌, Bool, List, take, Some, None, Option}
+use Rattle.std.specs.Prelude.{ℕ, ◌≤◌, List, take, Some, None, Option}
 use Rattle.label.specs.Label.{Label}
 use Rattle.taking.specs.Taking.{Tags, Taken}
 use Rattle.taking.specs.declared.arrived.Arrived.{Arrived}

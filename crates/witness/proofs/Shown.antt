@@ -1,9 +1,8 @@
 -- The run of "Sill 2.4 m", and what is held after it.
 use mathlib.Core.Path.{◌≡◌, refl, ◌∙◌}
 use mathlib.Core.List.{List, [], ◌∷◌}
-use mathlib.Core.Bool.{true, false}
 use mathlib.Core.Logic.{inl, inr}
-use Prim.Native.Nat.{ℕ, ◌≤◌, ◌<◌}
+use Prim.Native.Nat.{ℕ}
 use native.Mathlib.Omega.{arith}
 use Rattle.label.specs.Label.{Label, marked, deletes_in}
 use Rattle.carrier.specs.Meaning.{Meaning}

@@ -1,4 +1,4 @@
-use Rattle.std.proofs.Common.{◌≡◌, sym, ◌∙◌, arith}
+use Rattle.std.proofs.Common.{sym, arith}
 use Rattle.label.specs.Classes.{item_class}
 use Rattle.display.proofs.RowSteps.{far_class}
 use Rattle.display.proofs.rules.clear_for.Goals as goal

@@ -1,4 +1,3 @@
-use Rattle.std.proofs.Common.{rules}
 use Rattle.display.proofs.Rows.{clipped, short}
 use Rattle.display.proofs.rules.marked_part.Goals as goal
 

@@ -1,4 +1,4 @@
-use Rattle.std.proofs.Common.{◌≡◌, cond, get_or, refl, ap, ◌∙◌, take_all}
+use Rattle.std.proofs.Common.{cond, get_or, refl, ap, ◌∙◌, take_all}
 use Rattle.display.specs.Passes.{deleted}
 use Rattle.display.proofs.RowSteps.{deleted_next, deleted_start}
 use Rattle.display.proofs.rules.rule_2.Goals as goal

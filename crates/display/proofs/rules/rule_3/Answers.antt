@@ -1,4 +1,4 @@
-use Rattle.std.proofs.Common.{◌≡◌, cond, ltb, refl, ap, ◌∙◌, take_all}
+use Rattle.std.proofs.Common.{cond, ltb, refl, ap, ◌∙◌, take_all}
 use Rattle.display.specs.Passes.{put_by, row_of}
 use Rattle.display.proofs.RowSteps.{put_next, put_start}
 use Rattle.display.proofs.rules.rule_3.Goals as goal

@@ -1,7 +1,7 @@
-use Rattle.std.proofs.Common.{◌≡◌, ◌+◌, length, sym, ap, ◌∙◌, arith}
+use Rattle.std.proofs.Common.{length, sym, ap, ◌∙◌, arith}
 use Rattle.label.specs.Drafts.{sealed_outline}
 use Rattle.label.specs.Label.{label_of}
-use Rattle.fm.specs.Frames.{last_segment, tags_frame}
+use Rattle.fm.specs.Frames.{tags_frame}
 use Rattle.fm.specs.Closed.{closed_length}
 use Rattle.fm.specs.FramesLemmas.{text_at, announcing_at, tags_at, last_few, fitting}
 use Rattle.fm.proofs.as_carrier.frame.Goals as goal

@@ -1,4 +1,4 @@
-use Rattle.std.proofs.Common.{◌≡◌, sym, ◌∙◌}
+use Rattle.std.proofs.Common.{sym, ◌∙◌}
 use Rattle.fm.specs.Held.{fm_held}
 use Rattle.fm.proofs.Arrays.{ends_found, ends_not_yet}
 use Rattle.fm.proofs.pieces.ends_before.Goals as goal

@@ -1,5 +1,4 @@
-use Rattle.std.proofs.Common.{◌≡◌, ◌*◌, length, take, drop, sym, refl, ap, ◌∙◌, arith, length-drop, length-take}
-use Rattle.taking.specs.Bytes.{same_bytes}
+use Rattle.std.proofs.Common.{◌*◌, length, drop, ap, arith, length-drop, length-take}
 use Rattle.fm.proofs.pieces.is_segment.Goals as goal
 
 pub is_equal-requires : goal.is_equal-requires

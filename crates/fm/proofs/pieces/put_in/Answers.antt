@@ -1,4 +1,4 @@
-use Rattle.std.proofs.Common.{◌≡◌, ◌+◌, ◌-◌, ◌*◌, length, take, drop, set, sym, refl, ap, ◌∙◌, arith, length-drop, length-take}
+use Rattle.std.proofs.Common.{◌≡◌, ◌+◌, ◌-◌, ◌*◌, length, drop, ap, ◌∙◌, arith, length-drop, length-take}
 use Rattle.taking.specs.Segments.{put_segment}
 use Rattle.fm.specs.Held.{fm_held}
 use Rattle.fm.proofs.Arrays.{put_is}

@@ -1,4 +1,3 @@
-use Rattle.std.proofs.Common.{arith}
 use Rattle.fm.proofs.Arrays.{return_end, return_here, return_later}
 use Rattle.fm.proofs.pieces.return_at.Goals as goal
 

@@ -1,4 +1,4 @@
-use Rattle.std.proofs.Common.{◌≡◌, Some, None, sym, refl, ap, ◌∙◌, subst, arith}
+use Rattle.std.proofs.Common.{Some, sym, ap, ◌∙◌, subst, arith}
 use Rattle.fm.specs.Text.{has_return}
 use Rattle.fm.specs.Held.{ReturnAt}
 use Rattle.fm.proofs.Arrays.{read_begins, read_missing, read_more, read_ends, short_here, read_all}

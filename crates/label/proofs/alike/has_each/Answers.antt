@@ -1,4 +1,4 @@
-use Rattle.std.proofs.Common.{◌≡◌, Bool, not, ◌&&◌, sym, ap, ◌∙◌}
+use Rattle.std.proofs.Common.{Bool, not, ◌&&◌, sym, ap, ◌∙◌}
 use Rattle.label.specs.declared.tag.Tag.{Tag}
 use Rattle.label.specs.Tags.{sounds, sounding, has}
 use Rattle.label.proofs.Any.{any_hit, any_pass, any_end}

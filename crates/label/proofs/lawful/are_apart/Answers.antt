@@ -1,7 +1,5 @@
-use Rattle.std.proofs.Common.{◌≡◌, ◌+◌, not, ◌&&◌, get_or, drop, sym, ap, ◌∙◌}
-use Rattle.std.proofs.lemmas.List.{drop_more, drop_all, take_rest}
-use Rattle.label.specs.Tags.{sounding}
-use Rattle.label.specs.Lawful.{all_apart}
+use Rattle.std.proofs.Common.{◌+◌, sym, ◌∙◌}
+use Rattle.std.proofs.lemmas.List.{take_rest}
 use Rattle.label.proofs.Sounding.{apart_from_here, apart_at_end}
 use Rattle.label.proofs.lawful.are_apart.Goals as goal
 

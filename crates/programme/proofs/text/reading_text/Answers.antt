@@ -1,6 +1,5 @@
-use Rattle.std.proofs.Common.{◌≡◌, ℕ, ◌+◌, ◌-◌, ◌/◌, ◌%◌, Bool, true, false, cond, ltb, List, [], ◌∷◌, ◌++◌, take, drop, codes, refl, ap, ◌∙◌}
+use Rattle.std.proofs.Common.{◌≡◌, ℕ, ◌+◌, ◌-◌, ◌/◌, ◌%◌, Bool, true, false, cond, ltb, [], ◌∷◌, ◌++◌, take, drop, codes, refl, ap, ◌∙◌}
 use Rattle.std.proofs.lemmas.Slice.{pushed}
-use Rattle.programme.specs.Labels.{depth_digits}
 use Rattle.programme.proofs.text.reading_text.Goals as goal
 
 by_size : (small : Bool) (a b d : ℕ) →

@@ -1,4 +1,4 @@
-use Rattle.std.proofs.Common.{◌≡◌, ◌*◌, ◌<◌, ◌≤◌, length, refl, subst}
+use Rattle.std.proofs.Common.{◌*◌, ◌<◌, ◌≤◌, length, refl, subst}
 use Rattle.agreement.specs.Calls.{ready}
 use Rattle.station.specs.Sending.{places}
 use Rattle.station.proofs.Placed.{places_next}

@@ -6,7 +6,7 @@ use Rattle.agreement.specs.Station.{send_refusal}
 use Rattle.station.specs.Sending.{places}
 use Rattle.script.specs.Lines.{sent_line, with_buffer}
 use Rattle.bench_posts.specs.Held.{fresh}
-use Rattle.bench_posts.specs.Posts.{PostState, post_of, with_vars}
+use Rattle.bench_posts.specs.Posts.{post_of}
 use Rattle.bench_posts.proofs.post.Post.send_over.Goals as goal
 
 pub returns : goal.returns

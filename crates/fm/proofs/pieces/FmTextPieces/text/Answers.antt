@@ -1,4 +1,4 @@
-use Rattle.std.proofs.Common.{◌≡◌, ◌-◌, length, take, Some, None, sym, refl, ap, ◌∙◌, arith, length-take}
+use Rattle.std.proofs.Common.{◌≡◌, ◌-◌, length, take, Some, sym, ap, ◌∙◌, arith, length-take}
 use Rattle.fm.proofs.Arrays.{copied_out}
 use Rattle.fm.proofs.pieces.FmTextPieces.text.Goals as goal
 

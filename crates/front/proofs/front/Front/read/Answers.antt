@@ -1,4 +1,4 @@
-use Rattle.std.proofs.Common.{◌≡◌, ap, ◌∙◌}
+use Rattle.std.proofs.Common.{ap, ◌∙◌}
 use Rattle.display.specs.View.{view}
 use Rattle.front.specs.Reading.{reading_of}
 use Rattle.front.proofs.Copied.{copied}

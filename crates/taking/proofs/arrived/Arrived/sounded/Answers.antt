@@ -1,4 +1,4 @@
-use Rattle.std.proofs.Common.{◌≡◌, ℕ, ◌+◌, ◌<◌, length, take, sym, refl, ap, ◌∙◌, arith, length-set}
+use Rattle.std.proofs.Common.{◌+◌, length, take, sym, ap, ◌∙◌, arith, length-set}
 use Rattle.label.specs.declared.tag.Tag.{Tag}
 use Rattle.taking.proofs.Sounding.{sounds_here, is_left_out}
 use Rattle.taking.proofs.arrived.Arrived.sounded.Goals as goal

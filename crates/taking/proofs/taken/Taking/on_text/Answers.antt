@@ -1,4 +1,4 @@
-use Rattle.std.proofs.Common.{◌≡◌, sym, refl, ap, ◌∙◌}
+use Rattle.std.proofs.Common.{sym, refl, ap, ◌∙◌}
 use Rattle.taking.specs.declared.look.Look.TheVariants.{Behind, Equal, Unlike, Fresh}
 use Rattle.carrier.specs.declared.answer.Answer.TheVariants.{Kept}
 use Rattle.carrier.specs.Meaning.{answered}

@@ -1,6 +1,6 @@
-use Rattle.std.proofs.Common.{◌≡◌, Bool, true, false, length, take, Some, None, sym, refl, ap, ◌∙◌, arith}
+use Rattle.std.proofs.Common.{take, refl, ap, ◌∙◌, arith}
 use Rattle.std.proofs.lemmas.List.{length-take-le}
-use Rattle.taking.specs.Views.{view, tags_of, waiting_of, read_out}
+use Rattle.taking.specs.Views.{view, tags_of, waiting_of}
 use Rattle.taking.proofs.Steps.{lawful_here, told_is, settle_dropped, settle_told}
 use Rattle.taking.proofs.taken.Taking.settle.Goals as goal
 

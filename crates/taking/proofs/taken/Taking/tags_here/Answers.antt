@@ -1,4 +1,4 @@
-use Rattle.std.proofs.Common.{◌≡◌, Bool, true, false, length, take, sym, refl, ap, ◌∙◌, arith}
+use Rattle.std.proofs.Common.{take, sym, refl, ap, ◌∙◌, arith}
 use Rattle.std.proofs.lemmas.List.{length-take-le}
 use Rattle.taking.specs.Views.{view, tags_of, told_of, told_label}
 use Rattle.taking.proofs.Steps.{lawful_here, told_is, took, turned_down, met_unlawful, met_first, met_again, met_unlike}
