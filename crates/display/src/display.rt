@@ -61,7 +61,7 @@ impl<C: Carrier> Display<C> {
     }
 
     // What is held for a class.
-    fn row(&self, class: u8) -> &[u8]
+    pub(crate) fn row(&self, class: u8) -> &[u8]
         requires { class < 64 }
         ensures { result.now ≡ row_of self.now.rows self.now.lens class }
     {

@@ -46,17 +46,17 @@ pub part_le : (ws fs : List ℕ) → numeral ws + numeral fs ≤ numeral (ws ++ 
 part_le ws fs = omega (arith, joined ws fs, le-mul_of_pos_right (numeral ws) (tens_pos (length fs)))
 
 -- a row of digits only
-first_tag : (t : Bool) (a b : ℕ) → eqb (cond t (1 + a) 0) (suc b) ≡ true → (t ≡ true) × (a ≡ b)
-first_tag true a b e = (refl, omega (arith, eqb-true (1 + a) (suc b) e))
-first_tag false a b e = absurd (omega (arith, eqb-true 0 (suc b) e))
+first_counted : (t : Bool) (a b : ℕ) → eqb (cond t (1 + a) 0) (suc b) ≡ true → (t ≡ true) × (a ≡ b)
+first_counted true a b e = (refl, omega (arith, eqb-true (1 + a) (suc b) e))
+first_counted false a b e = absurd (omega (arith, eqb-true 0 (suc b) e))
 
 pub first_digit : (b : ℕ) (bs : List ℕ) → all_digits (b ∷ bs) ≡ true → b - 48 < 10
 first_digit b bs h =
-    let t = and_parts (leb 48 b) (leb b 57) (first_tag (is_digit b) (prefix_len is_digit bs) (length bs) h).0 in
+    let t = and_parts (leb 48 b) (leb b 57) (first_counted (is_digit b) (prefix_len is_digit bs) (length bs) h).0 in
     omega (arith, leb-true b 57 t.1)
 
 behind_digits : (b : ℕ) (bs : List ℕ) → all_digits (b ∷ bs) ≡ true → all_digits bs ≡ true
-behind_digits b bs h = eq-eqb _ _ (first_tag (is_digit b) (prefix_len is_digit bs) (length bs) h).1
+behind_digits b bs h = eq-eqb _ _ (first_counted (is_digit b) (prefix_len is_digit bs) (length bs) h).1
 
 numeral_first : (b : ℕ) (bs : List ℕ) → numeral (b ∷ bs) ≡ (b - 48) * 10 ^ length bs + numeral bs
 numeral_first b bs = weighs (0 * 10 + (b - 48)) bs ∙ (let e : 0 * 10 + (b - 48) ≡ b - 48 = omega arith in rw e)
