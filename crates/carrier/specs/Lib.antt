@@ -3,3 +3,4 @@ pub mod Writing
 pub mod Answers
 pub mod Meaning
 pub mod Hearing
+pub mod Aired

@@ -1,12 +1,15 @@
 ghost use Rattle.std.specs.Prelude.{◌≡◌, ◌≤◌, ◌++◌, length, drop, is_some};
+ghost use Rattle.std.specs.Option.{option_map};
 ghost use Rattle.label.specs.Drafts.{sealed_outline, done, left};
-ghost use Rattle.label.specs.Label.{label_of};
 ghost use Rattle.label.specs.Refusals.{Own, frame_writing};
+ghost use Rattle.carrier.specs.Aired.{airing_refusal, frame_of, told_label};
 ghost use Rattle.carrier.specs.Hearing.{Lawful};
 ghost use Rattle.carrier.specs.Meaning.{Meaning, reply, next, told_text, told_tags, told_item, Plain};
-ghost use Rattle.carrier.specs.Writing.{place, write_refusal};
+ghost use Rattle.carrier.specs.Writing.{place};
 
+use crate::airing::Airing;
 use crate::answer::Answer;
+use crate::told::Told;
 use label::refusal::Refusal;
 use label::sealed::Sealed;
 use label::tag::{ItemBits, Tag};
@@ -28,18 +31,10 @@ pub trait Carrier {
         ensures { result ≡ meaning.writing.count (sealed_outline label.now) };
 
     // Writes one frame into its place, the first 21 bytes of the space: its length, the frame, zeros.
-    fn write(
-        label: &Sealed,
-        item: ItemBits,
-        text: &[u8],
-        toggle: bool,
-        service: u16,
-        number: usize,
-        space: &mut [u8],
-    ) -> Result<(), Refusal>
-        ensures reply { result ≡ done (write_refusal meaning.writing (sealed_outline label.now) text.now number (length space.old)) tt }
+    fn write(airing: &Airing<'_>, number: usize, space: &mut [u8]) -> Result<(), Refusal>
+        ensures reply { result ≡ done (airing_refusal meaning.writing airing.now number (length space.old)) tt }
         ensures own { Own frame_writing result }
-        ensures space { space.new ≡ left (write_refusal meaning.writing (sealed_outline label.now) text.now number (length space.old)) (place (meaning.writing.frame (label_of (sealed_outline label.now) item text.now) toggle service number) ++ drop 21 space.old) space.old };
+        ensures space { space.new ≡ left (airing_refusal meaning.writing airing.now number (length space.old)) (place (frame_of meaning.writing airing.now number) ++ drop 21 space.old) space.old };
 
     fn new() -> Self
         ensures { state result ≡ meaning.fresh };
@@ -53,23 +48,48 @@ pub trait Carrier {
     fn standing(&self) -> Option<bool>
         ensures { result ≡ meaning.standing (state self.now) };
 
+    // The complete label.
+    fn told(&self) -> Option<&Told>
+        ensures { option_map (λ t. told_label t.now) result ≡ meaning.told (state self.now) };
+
     // A label is complete.
-    fn is_complete(&self) -> bool
-        ensures { result ≡ is_some (meaning.told (state self.now)) };
+    final fn is_complete(&self) -> bool
+        ensures { result ≡ is_some (meaning.told (state self.now)) }
+    {
+        self.told().is_some()
+    }
 
     // The complete label's text, or nothing.
-    fn text(&self) -> &[u8]
+    final fn text(&self) -> &[u8]
         ensures value { result.now ≡ told_text (meaning.told (state self.now)) }
-        ensures short { length result.now ≤ 128 };
+        ensures short { length result.now ≤ 128 }
+    {
+        match self.told() {
+            None => &[],
+            Some(told) => told.text.as_slice(),
+        }
+    }
 
     // The complete label's tags, or none.
-    fn tags(&self) -> &[Tag]
+    final fn tags(&self) -> &[Tag]
         ensures value { result.now ≡ told_tags (meaning.told (state self.now)) }
-        ensures plain { Plain (told_text (meaning.told (state self.now))) result.now };
+        ensures plain { Plain (told_text (meaning.told (state self.now))) result.now }
+    {
+        match self.told() {
+            None => &[],
+            Some(told) => told.tags.as_slice(),
+        }
+    }
 
     // The complete label's item bits, or zeros.
-    fn item(&self) -> ItemBits
-        ensures { result ≡ told_item (meaning.told (state self.now)) };
+    final fn item(&self) -> ItemBits
+        ensures { result ≡ told_item (meaning.told (state self.now)) }
+    {
+        match self.told() {
+            None => ItemBits::default(),
+            Some(told) => told.item,
+        }
+    }
 
     ghost lawful: { Lawful meaning };
 }

@@ -1,48 +1,51 @@
-ghost use Rattle.std.specs.Prelude.{◌≡◌, take};
-ghost use Rattle.label.specs.Drafts.{sealed_outline};
-ghost use Rattle.label.specs.Refusals.{OwnReason, frame_writing};
+ghost use Rattle.std.specs.Prelude.{◌≡◌, ◌≤◌, take};
+ghost use Rattle.label.specs.Drafts.{done};
+ghost use Rattle.label.specs.Refusals.{Own, frame_writing};
+ghost use Rattle.carrier.specs.Aired.{outline};
 ghost use Rattle.carrier.specs.Writing.{place, refusal_by};
 
+use crate::airing::Airing;
+use label::draft;
 use label::refusal::Refusal;
-use label::sealed::Sealed;
 
 // The bytes of a place: a frame's length, and room for the longest frame.
 pub const PLACE: usize = 21;
 
-// Why a frame is not written, or nothing, by whether the label fits and how many frames it has.
-pub fn why_not_write(
+const LONGEST: usize = PLACE - 1;
+
+// Whether a frame may be written, by whether the label fits and how many frames it has.
+pub fn may_write(
     fits: bool,
     count: usize,
-    label: &Sealed,
-    text: &[u8],
+    airing: &Airing<'_>,
     number: usize,
     room: usize,
-) -> Option<Refusal>
-    ensures own { OwnReason frame_writing result }
-    ensures value { result ≡ refusal_by fits count (sealed_outline label.now) text.now number room }
+) -> Result<(), Refusal>
+    ensures own { Own frame_writing result }
+    ensures value { result ≡ done (refusal_by fits count (outline airing.now) airing.now.text.now number room) tt }
 {
     if !fits {
-        return Some(Refusal::LabelDoesNotFit);
+        return Err(Refusal::LabelDoesNotFit);
     }
-    if !label.matches(text) {
-        return Some(Refusal::OtherText);
+    if !airing.label.matches(airing.text) {
+        return Err(Refusal::OtherText);
     }
     if room < PLACE {
-        return Some(Refusal::SmallBuffer);
+        return Err(Refusal::SmallBuffer);
     }
     if number >= count {
-        return Some(Refusal::NoSuchFrame);
+        return Err(Refusal::NoSuchFrame);
     }
-    None
+    Ok(())
 }
 
 // The first 20 bytes of a frame, laid out in a place.
-pub fn in_place(frame: &[u8]) -> [u8; 21]
+pub fn in_place(frame: &[u8]) -> [u8; PLACE]
     ensures { result ≡ place (take 20 frame.now) }
 {
-    let n = if frame.len() < 20 { frame.len() } else { 20 };
-    let mut place = [0u8; 21];
+    let n = frame.len().min(LONGEST);
+    let mut place = [0; PLACE];
     place[0] = n as u8;
-    place[1..n + 1].copy_from_slice(&frame[0..n]);
+    place[1..n + 1].copy_from_slice(&frame[..n]);
     place
 }
