@@ -1,4 +1,3 @@
-pub mod Any
 pub mod Marks
 pub mod Sounding
 pub mod Tagging

@@ -1,5 +1,5 @@
 -- Drafts and sealed labels: what they hold, and what opening, tagging and matching a text answer.
-use Rattle.std.specs.Prelude.{◌≡◌, ℕ, Bool, cond, not, ◌&&◌, List, [], ◌∷◌, ◌++◌, length, take, Some, None, Ok, Err, Option, Result, ◌==◌, nat_le, nat_lt}
+use Rattle.std.specs.Prelude.{◌≡◌, ℕ, Bool, cond, not, ◌&&◌, List, [], ◌∷◌, ◌++◌, length, Some, None, Ok, Err, Option, Result, ◌==◌, nat_le, nat_lt}
 use Rattle.label.specs.declared.refusal.Refusal.{Refusal}
 use Rattle.label.specs.declared.refusal.Refusal.TheVariants.{NoText, TextTooLong, ControlByte, SilentClass, PartLeavesText, SharedPosition, ClassAlreadyIn, LoneDescriptor, FourTagsIn}
 use Rattle.label.specs.declared.sealed.Draft.{Draft}
@@ -11,10 +11,10 @@ use Rattle.label.specs.Label.{Outline}
 use Rattle.label.specs.Tags.{lies_in, shares, of_class, is_descriptor, is_other}
 
 abbrev pub draft_outline : Draft → Outline
-draft_outline d = record { len = d.len; tags = take d.count d.tags }
+draft_outline d = record { len = d.len; tags = d.tags.items }
 
 abbrev pub sealed_outline : Sealed → Outline
-sealed_outline s = record { len = s.len; tags = take s.count s.tags }
+sealed_outline s = draft_outline s.0
 
 -- a byte that no text has
 abbrev pub control : ℕ → Bool

@@ -6,7 +6,6 @@ pub mod category;
 pub mod draft;
 pub mod lawful;
 pub mod part;
-mod question;
 pub mod refusal;
 pub mod sealed;
 pub mod tag;

@@ -1,69 +1,41 @@
 ghost use Rattle.std.specs.Prelude.{◌≡◌};
 ghost use Rattle.label.specs.Refusals.{case_of};
 
-// Why a call was refused. A refused call changes nothing.
+// Why a call was refused, with the number by which users know the refusal. A refused call changes nothing.
 #[derive(Clone, Copy, Debug, PartialEq, Eq)]
 pub enum Refusal {
-    NoText,
-    TextTooLong,
-    ControlByte,
-    SilentClass,
-    PartLeavesText,
-    SharedPosition,
-    ClassAlreadyIn,
-    LoneDescriptor,
-    FourTagsIn,
-    ItemStarted,
-    NoItemRuns,
-    LabelDoesNotFit,
-    OtherText,
-    SmallBuffer,
-    NoSuchFrame,
-    WrongSize,
-    WrongCheck,
-    WrongLength,
-    OtherCharset,
-    LaterSegmentZero,
-    WrongCommand,
-    UnusableGroup,
-    TagsUnlawful,
-    TagsUnlike,
-    UnreadableClass,
-    ShortBuffer,
+    NoText = 1,
+    TextTooLong = 2,
+    ControlByte = 3,
+    SilentClass = 4,
+    PartLeavesText = 5,
+    SharedPosition = 6,
+    ClassAlreadyIn = 7,
+    LoneDescriptor = 8,
+    FourTagsIn = 9,
+    ItemStarted = 10,
+    NoItemRuns = 11,
+    LabelDoesNotFit = 12,
+    OtherText = 13,
+    SmallBuffer = 14,
+    NoSuchFrame = 15,
+    WrongSize = 20,
+    WrongCheck = 21,
+    WrongLength = 22,
+    OtherCharset = 23,
+    LaterSegmentZero = 24,
+    WrongCommand = 25,
+    UnusableGroup = 26,
+    TagsUnlawful = 27,
+    TagsUnlike = 28,
+    UnreadableClass = 30,
+    ShortBuffer = 31,
 }
 
 impl Refusal {
-    // The number by which users know the refusal.
     pub fn number(self) -> u8
         ensures { result ≡ (case_of self).number }
     {
-        match self {
-            Refusal::NoText => 1,
-            Refusal::TextTooLong => 2,
-            Refusal::ControlByte => 3,
-            Refusal::SilentClass => 4,
-            Refusal::PartLeavesText => 5,
-            Refusal::SharedPosition => 6,
-            Refusal::ClassAlreadyIn => 7,
-            Refusal::LoneDescriptor => 8,
-            Refusal::FourTagsIn => 9,
-            Refusal::ItemStarted => 10,
-            Refusal::NoItemRuns => 11,
-            Refusal::LabelDoesNotFit => 12,
-            Refusal::OtherText => 13,
-            Refusal::SmallBuffer => 14,
-            Refusal::NoSuchFrame => 15,
-            Refusal::WrongSize => 20,
-            Refusal::WrongCheck => 21,
-            Refusal::WrongLength => 22,
-            Refusal::OtherCharset => 23,
-            Refusal::LaterSegmentZero => 24,
-            Refusal::WrongCommand => 25,
-            Refusal::UnusableGroup => 26,
-            Refusal::TagsUnlawful => 27,
-            Refusal::TagsUnlike => 28,
-            Refusal::UnreadableClass => 30,
-            Refusal::ShortBuffer => 31,
-        }
+        self as u8
     }
 }

@@ -3,5 +3,5 @@ use Rattle.label.specs.Tags.{same_tag}
 use Rattle.label.proofs.Sounding.{any_sounding}
 use Rattle.label.proofs.alike.is_missing.Goals as goal
 
-pub returns-then-not-is_silent : goal.returns-then-not-is_silent
-returns-then-not-is_silent c = let e = any_sounding (same_tag c.args.tag) c.args.list.now in search rules
+pub returns-then-sounds : goal.returns-then-sounds
+returns-then-sounds c = let e = any_sounding (same_tag c.args.tag) c.args.list.now in search rules

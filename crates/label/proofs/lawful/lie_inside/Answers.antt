@@ -4,4 +4,4 @@ use Rattle.label.proofs.Sounding.{all_sounding}
 use Rattle.label.proofs.lawful.lie_inside.Goals as goal
 
 pub returns : goal.returns
-returns c = ap not c.any_tag.ensures ∙ all_sounding (lies_in c.args.len) c.args.tags.now
+returns c = ap not c.one_leaves.ensures ∙ all_sounding (lies_in c.args.len) c.args.tags.now
