@@ -1,9 +1,7 @@
 // FM: labels as RadioText with RT+.
 #![tactic(auto)]
 
-pub mod as_carrier;
-pub mod fm;
+mod blocks;
 mod frame;
-mod pieces;
-mod take;
-pub mod text;
+mod segment_scratch;
+mod text;
