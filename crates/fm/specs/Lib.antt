@@ -1,10 +1,11 @@
 pub mod Frames
 pub mod Text
 pub mod Taking
+pub mod Blocks
+pub mod Views
+pub mod Laws
+pub mod Aired
 pub mod Bits
 pub mod Closed
 pub mod FramesLemmas
 pub mod Texts
-pub mod Blocks
-pub mod Aired
-pub mod Laws

@@ -1,10 +1,17 @@
-ghost use Rattle.std.specs.Prelude.{◌≡◌, ℕ, List, ◌==◌, if◌then◌else◌, cond, drop, length, Ok, Err};
-ghost use Rattle.label.specs.declared.refusal.Refusal.TheVariants.{WrongSize, UnusableGroup};
-ghost use Rattle.fm.specs.Taking.{announces, ert_flag, group_of, own_bits, read_bits, text_toggle, usable, version_of};
-ghost use Rattle.fm.specs.Blocks.{Holds, announced};
+ghost use Rattle.std.specs.Prelude.{◌≡◌, ◌<◌, ◌≤◌, ◌==◌};
+ghost use Rattle.taking.specs.Rows.{piece_meant};
+ghost use Rattle.taking.specs.Views.{tags_of};
+ghost use Rattle.fm.specs.Taking.{announces, ert_flag, group_of, own_bits, read_bits, text_piece, text_toggle, unpacked, usable, version_of};
+ghost use Rattle.fm.specs.Blocks.{Holds, announced, tag_below};
+ghost use Rattle.fm.specs.Views.{fm_segment};
 
 use crate::frame::{ANNOUNCEMENT, APPLICATION};
+use crate::text::{FmPiece, FmSegment};
+use arrayvec::ArrayVec;
 use label::refusal::Refusal;
+use label::tag::{ItemBits, Tag};
+use taking::arrived::Arrived;
+use taking::held::Piece;
 
 // A frame that arrives: four blocks, of two bytes each.
 #[derive(Clone, Copy)]
@@ -28,6 +35,19 @@ fn is_usable(group: u8) -> bool
     ensures { result ≡ usable group }
 {
     matches!(group, 5..=9 | 11..=13)
+}
+
+// The tag in the low bits: its length marker, of so many values, its start marker, its class.
+fn low_tag(bits: u64, extents: u64) -> Tag
+    requires some { 0 < extents }
+    requires few { extents ≤ 64 }
+    ensures { result ≡ tag_below bits extents }
+{
+    Tag {
+        class: (bits / extents / 64 % 64) as u8,
+        start: (bits / extents % 64) as u8,
+        extent: (bits % extents) as u8,
+    }
 }
 
 impl Blocks {
@@ -84,11 +104,43 @@ impl Blocks {
         }
     }
 
+    // The piece of a text that a text segment brings.
+    pub(crate) fn piece(&self) -> FmPiece
+        ensures { piece_meant fm_segment result ≡ text_piece self.now.0 }
+    {
+        let [_, _, _, _, p, q, r, s] = self.0;
+        Piece {
+            number: (self.own() % 16) as usize,
+            segment: FmSegment([p, q, r, s]),
+        }
+    }
+
     // The 37 bits of a tag group.
-    pub(crate) fn bits(&self) -> u64
+    fn bits(&self) -> u64
         ensures { result ≡ read_bits self.now.0 }
     {
         let [_, _, _, _, p, q, r, s] = self.0;
         u64::from_be_bytes([0, 0, 0, self.own(), p, q, r, s])
+    }
+
+    // The tags that a tag group brings.
+    pub(crate) fn tags(&self) -> Arrived
+        ensures { tags_of result ≡ unpacked (read_bits self.now.0) }
+    {
+        let bits = self.bits();
+        let second = low_tag(bits, 32);
+        let bits = bits / 32 / 64 / 64;
+        let first = low_tag(bits, 64);
+        let bits = bits / 64 / 64 / 64;
+        let mut tags = ArrayVec::new();
+        tags.push(first);
+        tags.push(second);
+        Arrived {
+            item: ItemBits {
+                toggle: bits / 2 % 2 == 1,
+                running: bits % 2 == 1,
+            },
+            tags,
+        }
     }
 }

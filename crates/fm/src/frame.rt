@@ -8,7 +8,9 @@ use label::tag::{ItemBits, Tag};
 
 // The types of the groups that are sent.
 pub(crate) const TEXT: u8 = 2;
+
 pub(crate) const ANNOUNCEMENT: u8 = 3;
+
 const TAGS: u8 = 11;
 
 // RT+, by the number under which applications are announced.
@@ -94,7 +96,8 @@ fn pack(item: ItemBits, t: Tag, u: Tag) -> u64
     ensures bound { result < 2 ^ 40 }
 {
     let item = u64::from(item.toggle) * 2 + u64::from(item.running);
-    let first = ((item * 64 + u64::from(t.class)) * 64 + u64::from(t.start)) * 64 + u64::from(t.extent);
+    let first = ((item * 64 + u64::from(t.class)) * 64 + u64::from(t.start)) * 64
+        + u64::from(t.extent);
     ((first * 64 + u64::from(u.class)) * 64 + u64::from(u.start)) * 32 + u64::from(u.extent)
 }
 

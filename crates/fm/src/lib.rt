@@ -1,7 +1,9 @@
 // FM: labels as RadioText with RT+.
 #![tactic(auto)]
 
+pub mod as_carrier;
 mod blocks;
+pub mod fm;
 mod frame;
-mod segment_scratch;
-mod text;
+mod take;
+pub mod text;

@@ -18,4 +18,4 @@ before (x ∷ xs) =
 pub returns-in-Some-clause-value : goal.returns-in-Some-clause-value
 returns-in-Some-clause-value c =
     let found = position_from_yields_List (λ b. eqb b 13) _ _ c.position.result c.position.ensures.ran (YieldsList-from_slice _ c.iter.ensures.rest) (λ x b q k. search (rules, tests)) in
-    grind (arith, nat_tests, before c.args.self.now.bytes)
+    grind (arith, nat_tests, before c.args.self.now.0)
