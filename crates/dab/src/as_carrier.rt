@@ -5,13 +5,12 @@ ghost use Rattle.dab.specs.Laws.{dab_lawful};
 use crate::dab::Dab;
 use crate::open::open;
 use crate::text::last_segment;
-use crate::writing::airing_frame;
-use arrayvec::ArrayVec;
+use crate::writing::lay;
 use carrier::airing::Airing;
 use carrier::answer::Answer;
 use carrier::carrier::Carrier;
 use carrier::told::Told;
-use carrier::writing::{PLACE, in_place, may_write};
+use carrier::writing::{PLACE, may_write};
 use label::draft;
 use label::refusal::Refusal;
 use label::sealed::Sealed;
@@ -43,8 +42,7 @@ impl Carrier for Dab {
             number,
             space.len(),
         )?;
-        let place = in_place(&airing_frame(airing, number));
-        space[..PLACE].copy_from_slice(&place);
+        space[..PLACE].copy_from_slice(&lay(airing, number));
         Ok(())
     }
 

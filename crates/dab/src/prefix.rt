@@ -46,7 +46,10 @@ impl Prefix {
         let first = (number == 0) as u8;
         let last = (number == last) as u8;
         Prefix {
-            first: toggle as u8 * TOGGLE + first * FIRST + last * LAST + (load.bytes.len() as u8 - 1),
+            first: toggle as u8 * TOGGLE
+                + first * FIRST
+                + last * LAST
+                + (load.bytes.len() as u8 - 1),
             second: number as u8 * 16,
         }
     }

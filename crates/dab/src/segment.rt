@@ -1,4 +1,3 @@
-
 ghost use Rattle.std.specs.Prelude.{refl};
 ghost use Rattle.std.proofs.Common.{rules};
 ghost use Rattle.dab.specs.Text.{Flagged, dab_segments};

@@ -31,7 +31,10 @@ impl Dab {
             data: ArrayVec::try_from(load.bytes).unwrap(),
             last: prefix.is_last(),
         };
-        Ok(self.taking.on_text(prefix.text_toggle(), Piece { number, segment }))
+        Ok(
+            self.taking
+                .on_text(prefix.text_toggle(), Piece { number, segment }),
+        )
     }
 
     // Takes a command of DL Plus.
@@ -43,7 +46,9 @@ impl Dab {
         if prefix.command_len() != load.bytes.len() {
             return Err(Refusal::WrongLength);
         }
-        let head = Head { byte: load.bytes[0] };
+        let head = Head {
+            byte: load.bytes[0],
+        };
         if !head.has_tags() {
             return Ok(Answer::PassedOver);
         }

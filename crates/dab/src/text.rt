@@ -1,8 +1,8 @@
 ghost use Rattle.std.specs.Prelude.{◌≡◌, ◌≤◌, length};
 ghost use Rattle.dab.specs.Frames.{segment, last_segment, text_body, framed};
 
-use crate::load::Load;
 use crate::frame::frame;
+use crate::load::Load;
 use crate::prefix::Prefix;
 use arrayvec::ArrayVec;
 
