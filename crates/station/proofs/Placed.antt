@@ -1,79 +1,50 @@
 -- The places that sending writes, one more at a time.
-use Rattle.std.proofs.Common.{◌≡◌, ℕ, zero, suc, ◌+◌, ◌-◌, ◌*◌, ◌<◌, ◌≤◌, Bool, true, not, eqb, ltb, leb, List, [], ◌∷◌, ◌++◌, length, take, drop, Some, None, sym, refl, ap, ◌∙◌, subst, append_assoc, append-nil, add-one, arith, length-append, length-drop, length-take}
-use lib.ListN.{length-replicate}
+use Rattle.std.proofs.Common.{◌≡◌, ℕ, suc, ◌+◌, ◌-◌, ◌*◌, ◌≤◌, List, ◌++◌, length, take, drop, Some, None, Ok, Option, refl, ap, ◌∙◌, append_assoc, append-nil, add-one, arith, length-append, length-drop}
 use borrow.Rule.Slice.PartMut.{put_mid}
-use Rattle.std.proofs.lemmas.List.{take_at, drop_at, drop-drop}
-use Rattle.std.proofs.lemmas.Bool.{lt-leb, le-ltb, eqb-true, and_parts, cond-false}
-use Rattle.label.specs.declared.refusal.Refusal.TheVariants.{LabelDoesNotFit, OtherText, SmallBuffer, NoSuchFrame}
-use Rattle.label.specs.declared.tag.ItemBits.{ItemBits}
-use Rattle.label.specs.Drafts.{matches, left}
-use Rattle.label.specs.Label.{label_of}
-use Rattle.carrier.specs.Hearing.{Lawful}
-use Rattle.carrier.specs.Meaning.{Meaning}
-use Rattle.carrier.specs.Writing.{place, write_refusal}
-use Rattle.agreement.specs.Calls.{Ready}
-use Rattle.agreement.proofs.Shows.{sendable}
+use Rattle.std.proofs.lemmas.List.{take_all, drop_all, take_at, drop_at, drop-drop}
+use Rattle.label.specs.declared.refusal.Refusal.{Refusal}
+use Rattle.label.specs.Drafts.{done, left}
+use Rattle.carrier.specs.Writing.{place}
 use Rattle.station.specs.Sending.{places}
 
-no_more : (xs : List ℕ) → length xs ≡ 0 → xs ≡ []
-no_more [] e = refl
-no_more (x ∷ xs) e = absurd (omega arith)
+-- the places written so far, each of 21 bytes, and behind them the buffer as it was
+pub record Written (frame : ℕ → List ℕ) (n : ℕ) (old buf : List ℕ) : Type 0 where
+  pub long : length (places frame n) ≡ 21 * n
+  pub so_far : buf ≡ places frame n ++ drop (21 * n) old
 
-emptied : (xs : List ℕ) → length xs ≡ 21 → drop 21 xs ≡ []
-emptied xs e = no_more (drop 21 xs) (length-drop 21 xs ∙ omega arith)
+pub none_written : (frame : ℕ → List ℕ) (buf : List ℕ) → Written frame 0 buf buf
+unfolding places
+none_written frame buf = record { long = refl; so_far = refl }
 
-place_length : (f : List ℕ) → length f ≤ 20 → length (place f) ≡ 21
-place_length f h = simp (length-append, length-replicate) (omega arith)
+-- what an accepted call leaves
+pub accepted : {X Y : Type 0} (r : Option Refusal) (x : X) (is new old : Y) → is ≡ left r new old → done r x ≡ Ok x → is ≡ new
+accepted None x is new old e h = e
+accepted (Some r) x is new old e h = cc
 
-module _ {S : Type 0} (m : Meaning S) (law : Lawful m) (x : Ready) (item : ItemBits) (text : List ℕ) (t : Bool) (v : ℕ) (fit : m.writing.fits x.outline ≡ true) (same : matches x.outline text ≡ true) where
-  abbrev count : ℕ
-  count = m.writing.count x.outline
+-- a part F written at a place behind P, into the rest of the buffer
+module _ (at : ℕ) (P F old buf space : List ℕ) (long : length P ≡ at) (so_far : buf ≡ P ++ drop at old) (room : at + 21 ≤ length old) (wrote : space ≡ F ++ drop 21 (take (length buf - at) (drop at buf))) (kept : length space ≡ length (take (length buf - at) (drop at buf))) where
+  rest : take (length buf - at) (drop at buf) ≡ drop at old
+  rest = take_all (length buf - at) (drop at buf) (omega (arith, length-drop at buf)) ∙ ap (drop at) so_far ∙ drop_at P (drop at old) at long
 
-  abbrev frame : ℕ → List ℕ
-  frame = m.writing.frame (label_of x.outline item text) t v
+  part_long : length F ≡ 21
+  part_long = omega (arith, length-append F (drop 21 (drop at old)), ap length wrote, ap length rest, ap (λ xs. length (F ++ drop 21 xs)) rest, length-drop 21 (drop at old), length-drop at old)
 
-  as_long : length text ≡ x.outline.len
-  as_long = eqb-true (length text) x.outline.len (and_parts (eqb (length text) x.outline.len) _ same).0
+  next : put_mid at (length buf - at) buf space ≡ (P ++ F) ++ drop (at + 21) old
+  next =
+      let front : take at buf ≡ P = ap (take at) so_far ∙ take_at P (drop at old) at long in
+      let back : space ≡ F ++ drop (at + 21) old = wrote ∙ ap (λ xs. F ++ drop 21 xs) rest ∙ ap (λ xs. F ++ xs) (drop-drop 21 at old) in
+      let none = drop_all (length buf - at) (drop at buf) (omega (arith, length-drop at buf)) in
+      rw (front, none, append-nil, back, append_assoc) refl
 
-  short_frame : (i : ℕ) → i < count → length (frame i) ≤ 20
-  short_frame i h = (law.sized (label_of x.outline item text) t v i (subst (λ n. i < m.writing.count (record { len = n; tags = x.outline.tags })) (sym as_long) h) (sendable m x item text fit same)).1
-
-  places_length : (i : ℕ) → i ≤ count → length (places frame i) ≡ 21 * i
-  unfolding places
-  places_length zero h = refl
-  places_length (suc i) h =
-      let p = places_length i (omega arith) in
-      let q = place_length (frame i) (short_frame i (omega arith)) in
-      length-append (places frame i) (place (frame i)) ∙ omega arith
-
-  allowed : (i n : ℕ) → i < count → n ≡ 21 → write_refusal m.writing x.outline text i n ≡ None
-  allowed i n h e =
-      cond-false (not (m.writing.fits x.outline)) (Some LabelDoesNotFit) _ (ap not fit)
-      ∙ cond-false (not (matches x.outline text)) (Some OtherText) _ (ap not same)
-      ∙ cond-false (ltb n 21) (Some SmallBuffer) _ (le-ltb n 21 (omega arith))
-      ∙ cond-false (leb count i) (Some NoSuchFrame) None (lt-leb count i h)
-
-  pub places_next : (i : ℕ) (old buf part : List ℕ) → i < count → 21 * count ≤ length old
-      → buf ≡ places frame i ++ drop (21 * i) old
-      → part ≡ left (write_refusal m.writing x.outline text i (length (take ((21 * i + 21) - 21 * i) (drop (21 * i) buf)))) (place (frame i) ++ drop 21 (take ((21 * i + 21) - 21 * i) (drop (21 * i) buf))) (take ((21 * i + 21) - 21 * i) (drop (21 * i) buf))
-      → put_mid (21 * i) ((21 * i + 21) - 21 * i) buf part ≡ places frame (i + 1) ++ drop (21 * (i + 1)) old
-  unfolding places
-  places_next i old buf part h room inv wrote =
-      let P = places frame i in
-      let F = place (frame i) in
-      let k : (21 * i + 21) - 21 * i ≡ 21 = omega arith in
-      let long : length P ≡ 21 * i = places_length i (omega arith) in
-      let front : take (21 * i) buf ≡ P = ap (take (21 * i)) inv ∙ take_at P (drop (21 * i) old) (21 * i) long in
-      let back : drop (21 * i) buf ≡ drop (21 * i) old = ap (drop (21 * i)) inv ∙ drop_at P (drop (21 * i) old) (21 * i) long in
-      let cut : length (take ((21 * i + 21) - 21 * i) (drop (21 * i) buf)) ≡ 21 =
-      rw (k, back) (simp (length-take, length-drop) (omega arith)) in
-      let none = allowed i _ h cut in
-      let rest : drop 21 (take ((21 * i + 21) - 21 * i) (drop (21 * i) buf)) ≡ [] = emptied _ cut in
-      let mid : part ≡ F = wrote ∙ ap (λ o. left o (F ++ drop 21 (take ((21 * i + 21) - 21 * i) (drop (21 * i) buf))) (take ((21 * i + 21) - 21 * i) (drop (21 * i) buf))) none ∙ ap (λ xs. F ++ xs) rest ∙ append-nil F in
-      let tail : drop ((21 * i + 21) - 21 * i) (drop (21 * i) buf) ≡ drop (21 * (i + 1)) old =
-      ap (λ n. drop n (drop (21 * i) buf)) k ∙ ap (drop 21) back ∙ drop-drop 21 (21 * i) old ∙ ap (λ n. drop n old) (omega arith) in
-      ap (λ a. a ++ (part ++ drop ((21 * i + 21) - 21 * i) (drop (21 * i) buf))) front
-      ∙ ap (λ a. P ++ (a ++ drop ((21 * i + 21) - 21 * i) (drop (21 * i) buf))) mid
-      ∙ ap (λ a. P ++ (F ++ a)) tail
-      ∙ sym (append_assoc P F (drop (21 * (i + 1)) old))
-      ∙ ap (λ n. places frame n ++ drop (21 * (i + 1)) old) (sym (add-one i))
+pub one_more : (frame : ℕ → List ℕ) (n : ℕ) (old buf space : List ℕ) → Written frame n old buf → 21 * n + 21 ≤ length old
+    → space ≡ place (frame n) ++ drop 21 (take (length buf - 21 * n) (drop (21 * n) buf)) → length space ≡ length (take (length buf - 21 * n) (drop (21 * n) buf))
+    → Written frame (n + 1) old (put_mid (21 * n) (length buf - 21 * n) buf space)
+unfolding places
+one_more frame n old buf space w room wrote kept =
+    let P = places frame n in
+    let F = place (frame n) in
+    let behind : 21 * n + 21 ≡ 21 * suc n = omega arith in
+    rw add-one record {
+      long = length-append P F ∙ omega (arith, w.long, part_long (21 * n) P F old buf space w.long w.so_far room wrote kept);
+      so_far = next (21 * n) P F old buf space w.long w.so_far room wrote kept ∙ ap (λ k. (P ++ F) ++ drop k old) behind;
+    }
