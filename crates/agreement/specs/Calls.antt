@@ -13,7 +13,7 @@ pub record Ready : Type 0 where
   pub right : sealable outline.len outline.tags ≡ true
 
 abbrev pub ready : Sealed → Ready
-ready s = record { outline = sealed_outline s; some = s.some; short = s.short; right = s.right }
+ready s = record { outline = sealed_outline s; some = s.0.some; short = s.0.short; right = s.0.right }
 
 -- an item start, an item end, or a label to be sent over a text
 pub data Call : Type 0 where
