@@ -10,6 +10,7 @@ use Rattle.agreement.specs.Rules.{emptied, empty, by_rules}
 use Rattle.label.specs.Label.{Label}
 use Rattle.display.specs.declared.table.ClassTable.{ClassTable}
 use Rattle.display.specs.Held.{held, toggle_of, table_of}
+use Rattle.arrayvec.specs.declared.array_vec.ArrayVec.{ArrayVec}
 
 outside_item : (k : ℕ) → (k < 1) ⊎ (12 ≤ k) → item_class k ≡ false
 outside_item k (inl h) = grind (arith, nat_tests)
@@ -18,18 +19,26 @@ outside_item k (inr h) = grind (arith, nat_tests)
 inside_item : (k : ℕ) → 1 ≤ k → k < 12 → item_class k ≡ true
 inside_item k g h = grind (arith, nat_tests)
 
-module _ {X : Type 0} (items : X → List ℕ) (d : X) where
-  pub items_cleared : (xs ys : List X) → length xs ≡ 64 → length ys ≡ 11 → ((k : ℕ) → k < 11 → items (get_or ys k d) ≡ []) → (k : ℕ) → items (get_or (put_mid 1 11 xs ys) k d) ≡ emptied (item_class k) (items (get_or xs k d))
-  items_cleared xs ys n m h k = ⊎_elim before (λ g. ⊎_elim (inside g) behind (cases_lt k 12)) (cases_lt k 1)
+module _ {X : Type 0} (items : X → List ℕ) (d : X) (xs ys : List X) (k : ℕ) (n : length xs ≡ 64) (m : length ys ≡ 11) where
+  kept : (k < 1) ⊎ (12 ≤ k) → get_or (put_mid 1 11 xs ys) k d ≡ get_or xs k d → items (get_or (put_mid 1 11 xs ys) k d) ≡ emptied (item_class k) (items (get_or xs k d))
+  kept h e = rw (outside_item k h, e)
+
+  items_cleared : ((k : ℕ) → k < 11 → items (get_or ys k d) ≡ []) → items (get_or (put_mid 1 11 xs ys) k d) ≡ emptied (item_class k) (items (get_or xs k d))
+  items_cleared h = ⊎_elim (λ g. kept (inl g) (before g)) (λ g. ⊎_elim (inside g) (λ l. kept (inr l) (behind l)) (cases_lt k 12)) (cases_lt k 1)
     where
-      before : k < 1 → items (get_or (put_mid 1 11 xs ys) k d) ≡ emptied (item_class k) (items (get_or xs k d))
-      before g = rw (outside_item k (inl g)) (ap items (search (rules, places)))
+      before : k < 1 → get_or (put_mid 1 11 xs ys) k d ≡ get_or xs k d
+      before g = search (rules, places)
+
+      behind : 12 ≤ k → get_or (put_mid 1 11 xs ys) k d ≡ get_or xs k d
+      behind g = search (rules, places)
 
       inside : 1 ≤ k → k < 12 → items (get_or (put_mid 1 11 xs ys) k d) ≡ emptied (item_class k) (items (get_or xs k d))
       inside g l = rw (inside_item k g l) (ap items (search (rules, places)) ∙ h (k - 1) (omega arith))
 
-      behind : 12 ≤ k → items (get_or (put_mid 1 11 xs ys) k d) ≡ emptied (item_class k) (items (get_or xs k d))
-      behind g = rw (outside_item k (inr g)) (ap items (search (rules, places)))
+-- the rows of Item emptied
+pub row_cleared : (xs ys : List (ArrayVec ℕ 128 (Unit {0}))) (k : ℕ) → length xs ≡ 64 → length ys ≡ 11 → ((k : ℕ) → k < 11 → (get_or ys k (record { items = [] })).items ≡ [])
+    → (get_or (put_mid 1 11 xs ys) k (record { items = [] })).items ≡ emptied (item_class k) (get_or xs k (record { items = [] })).items
+row_cleared xs ys k n m h = items_cleared (λ v. v.items) _ xs ys k n m h
 
 -- a new table holds nothing
 pub new_table : (t : ClassTable) → AllOfLen (λ v. v.items ≡ []) t.rows 64 → t.last ≡ None → table_of t ≡ empty

@@ -98,6 +98,7 @@ impl ClassTable {
     }
 
     // Empties all Item classes.
+    #[tactic(auto, using(crate::proofs::Rows::row_cleared))]
     fn clear_items(&mut self)
         ensures { ChangesRows self.old self.new (λ k old. emptied (item_class k) old) }
     {
