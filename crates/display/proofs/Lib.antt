@@ -1,3 +1,3 @@
-pub mod Passes
+pub mod Tags
+pub mod Steps
 pub mod Rows
-pub mod RowSteps

@@ -1,65 +1,52 @@
--- The rows of a display.
-use Rattle.std.proofs.Common.{◌≡◌, ℕ, zero, suc, ◌+◌, ◌-◌, ◌<◌, ◌≤◌, min, Bool, true, false, cond, eqb, ltb, ◌≢◌, ◌⊎◌, List, [], ◌∷◌, ◌++◌, length, get_or, take, drop, set, replicate, sym, refl, ap, ◌∙◌, inl, inr, ⊎_elim, arith, length-drop, length-take, get_or-set_other, get_or-set_same}
-use Rattle.std.proofs.lemmas.List.{take_all, take_at}
-use Rattle.std.proofs.lemmas.Bool.{cases_lt, cases_eq, lt-ltb, eq-eqb, ne_eqb}
-use Rattle.display.specs.Passes.{row_of}
+-- The rows of a class table.
+use Rattle.std.proofs.Common.{◌≡◌, ℕ, ◌-◌, ◌<◌, ◌≤◌, ◌⊎◌, Bool, true, false, List, [], length, get_or, Option, None, ap, ◌∙◌, inl, inr, ⊎_elim, arith, rules}
+use Rattle.std.proofs.lemmas.Bool.{cases_lt}
+use Rattle.std.proofs.lemmas.Bool.Decides.{nat_tests}
+use Rattle.std.proofs.lemmas.List.{places, get_or_past}
+use borrow.Rule.Slice.PartMut.{put_mid}
+use Rattle.label.specs.Classes.{item_class}
+use Rattle.std.specs.Array.{AllOfLen}
+use Rattle.agreement.specs.Rules.{emptied, empty, by_rules}
+use Rattle.label.specs.Label.{Label}
+use Rattle.display.specs.declared.table.ClassTable.{ClassTable}
+use Rattle.display.specs.Held.{held, toggle_of, table_of}
+use Rattle.arrayvec.specs.declared.array_vec.ArrayVec.{ArrayVec}
 
-take_either : (xs : List ℕ) (a b : ℕ) → (a ≡ b) ⊎ ((length xs ≤ a) × (length xs ≤ b)) → take a xs ≡ take b xs
-take_either xs a b (inl e) = ap (λ n. take n xs) e
-take_either xs a b (inr h) = take_all a xs h.0 ∙ sym (take_all b xs h.1)
+outside_item : (k : ℕ) → (k < 1) ⊎ (12 ≤ k) → item_class k ≡ false
+outside_item k (inl h) = grind (arith, nat_tests)
+outside_item k (inr h) = grind (arith, nat_tests)
 
-drop_past : (xs : List ℕ) (a : ℕ) → length xs ≤ a → drop a xs ≡ []
-drop_past xs a h = nil (drop a xs) (length-drop a xs ∙ omega arith)
+inside_item : (k : ℕ) → 1 ≤ k → k < 12 → item_class k ≡ true
+inside_item k g h = grind (arith, nat_tests)
+
+module _ {X : Type 0} (items : X → List ℕ) (d : X) (xs ys : List X) (k : ℕ) (n : length xs ≡ 64) (m : length ys ≡ 11) where
+  kept : (k < 1) ⊎ (12 ≤ k) → get_or (put_mid 1 11 xs ys) k d ≡ get_or xs k d → items (get_or (put_mid 1 11 xs ys) k d) ≡ emptied (item_class k) (items (get_or xs k d))
+  kept h e = rw (outside_item k h, e)
+
+  items_cleared : ((k : ℕ) → k < 11 → items (get_or ys k d) ≡ []) → items (get_or (put_mid 1 11 xs ys) k d) ≡ emptied (item_class k) (items (get_or xs k d))
+  items_cleared h = ⊎_elim (λ g. kept (inl g) (before g)) (λ g. ⊎_elim (inside g) (λ l. kept (inr l) (behind l)) (cases_lt k 12)) (cases_lt k 1)
+    where
+      before : k < 1 → get_or (put_mid 1 11 xs ys) k d ≡ get_or xs k d
+      before g = search (rules, places)
+
+      behind : 12 ≤ k → get_or (put_mid 1 11 xs ys) k d ≡ get_or xs k d
+      behind g = search (rules, places)
+
+      inside : 1 ≤ k → k < 12 → items (get_or (put_mid 1 11 xs ys) k d) ≡ emptied (item_class k) (items (get_or xs k d))
+      inside g l = rw (inside_item k g l) (ap items (search (rules, places)) ∙ h (k - 1) (omega arith))
+
+-- the rows of Item emptied
+pub row_cleared : (xs ys : List (ArrayVec ℕ 128 (Unit {0}))) (k : ℕ) → length xs ≡ 64 → length ys ≡ 11 → ((k : ℕ) → k < 11 → (get_or ys k (record { items = [] })).items ≡ [])
+    → (get_or (put_mid 1 11 xs ys) k (record { items = [] })).items ≡ emptied (item_class k) (get_or xs k (record { items = [] })).items
+row_cleared xs ys k n m h = items_cleared (λ v. v.items) _ xs ys k n m h
+
+-- a new table holds nothing
+pub new_table : (t : ClassTable) → AllOfLen (λ v. v.items ≡ []) t.rows 64 → t.last ≡ None → table_of t ≡ empty
+new_table t all e = λ i. record { row = λ k. nothing k i; toggle = toggle_of (e i) }
   where
-    nil : (ys : List ℕ) → length ys ≡ 0 → ys ≡ []
-    nil [] e = refl
-    nil (y ∷ ys) e = absurd (omega arith)
+    nothing : (k : ℕ) → held t k ≡ []
+    nothing k = ⊎_elim (λ h. all.at k _ h) (λ h. ap (λ x. x.items) (get_or_past t.rows k _ (let n = all.long in omega arith))) (cases_lt k 64)
 
--- a part cut at the text's end
-pub clipped : (xs : List ℕ) (a e s n : ℕ) → s ≡ min a (length xs) → n ≡ min (s + e + 1) (length xs) → take (n - s) (drop s xs) ≡ take (e + 1) (drop a xs)
-clipped xs a e s n p q = ⊎_elim inside past (cases_lt a (length xs))
-  where
-    inside : a < length xs → take (n - s) (drop s xs) ≡ take (e + 1) (drop a xs)
-    inside h =
-        let d = length-drop a xs in
-        let t : s ≡ a = omega arith in
-        ap (λ x. take (n - s) (drop x xs)) t ∙ take_either (drop a xs) (n - s) (e + 1) (⊎_elim (λ g. inl (omega arith)) (λ g. inr (omega arith, omega arith)) (cases_lt (a + e) (length xs)))
-
-    past : length xs ≤ a → take (n - s) (drop s xs) ≡ take (e + 1) (drop a xs)
-    past h =
-        ap (take (n - s)) (drop_past xs s (omega arith) ∙ sym (drop_past xs a h)) ∙ take_either (drop a xs) (n - s) (e + 1) (let d = length-drop a xs in inr (omega arith, omega arith))
-
-cond_same : (b : Bool) (x : List ℕ) → cond b x x ≡ x
-cond_same true x = refl
-cond_same false x = refl
-
--- one row written
-module _ (rows : List (List ℕ)) (lens : List ℕ) (c : ℕ) (text rest x : List ℕ) (e : x ≡ text ++ rest) (a : length rows ≡ 64) (b : length lens ≡ 64) (h : c < 64) where
-  here : row_of (set rows c x) (set lens c (length text)) c ≡ text
-  here =
-      let r : c < length rows = omega arith in
-      let l : c < length lens = omega arith in
-      ap (λ y. row_of (set rows c y) (set lens c (length text)) c) e ∙ rw (get_or-set_same, get_or-set_same) (take_at text rest (length text) refl)
-
-  elsewhere : (k : ℕ) → k ≢ c → row_of (set rows c x) (set lens c (length text)) k ≡ row_of rows lens k
-  elsewhere k ne = rw (get_or-set_other, get_or-set_other)
-
-  pub put_row : (k : ℕ) → row_of (set rows c x) (set lens c (length text)) k ≡ cond (ltb k 64) (cond (eqb c k) text (row_of rows lens k)) (row_of rows lens k)
-  put_row k = ⊎_elim (λ d. rw (lt-ltb k 64 (omega arith), eq-eqb c k d, ← d) here) (λ ne. rw (ne_eqb c k ne) (elsewhere k (λ d. ne (sym d)) ∙ sym (cond_same (ltb k 64) (row_of rows lens k)))) (cases_eq c k)
-
-  pub put_small : length text ≤ 128 → ((k : ℕ) → get_or lens k 0 ≤ 128) → (k : ℕ) → get_or (set lens c (length text)) k 0 ≤ 128
-  put_small s f k =
-      ⊎_elim (λ d. let l : c < length lens = omega arith in rw (← d, get_or-set_same) s) (λ ne. let n : k ≢ c = (λ d. ne (sym d)) in rw get_or-set_other (f k)) (cases_eq c k)
-
-pub short : (xs : List ℕ) (a n : ℕ) → length (take n (drop a xs)) ≤ length xs
-short xs a n = simp (length-take, length-drop) (omega arith)
-
-pub zeros_small : (n k : ℕ) → get_or (replicate n 0) k 0 ≤ 128
-zeros_small zero k = omega arith
-zeros_small (suc n) zero = omega arith
-zeros_small (suc n) (suc k) = zeros_small n k
-
-pub zeros_none : (n k : ℕ) (row : List ℕ) → take (get_or (replicate n 0) k 0) row ≡ []
-zeros_none zero k row = refl
-zeros_none (suc n) zero row = refl
-zeros_none (suc n) (suc k) row = zeros_none n k row
+-- a label with running 0 leaves nothing in Item
+pub idle_after : (last : Option Bool) (l : Label) (k : ℕ) (old : List ℕ) → item_class k ≡ true → l.item.running ≡ false → by_rules last l k old ≡ []
+idle_after last l k old i r = grind arith

@@ -1,2 +1,2 @@
-pub mod Passes
+pub mod Held
 pub mod View

@@ -1,15 +1,13 @@
-ghost use Rattle.std.specs.Prelude.{◌≡◌, ◌<◌, true, ◌++◌, length, drop, is_some};
+ghost use Rattle.std.specs.Prelude.{◌≡◌, ◌++◌, length, drop};
 ghost use Rattle.label.specs.Drafts.{done, left};
 ghost use Rattle.label.specs.Refusals.{Own, reading};
 ghost use Rattle.carrier.specs.Meaning.{reply};
 ghost use Rattle.agreement.specs.Reading.{read_refusal};
 ghost use Rattle.agreement.specs.Shown.{display_step, new_display, on_told};
-ghost use Rattle.display.specs.Passes.{row_of};
 ghost use Rattle.display.specs.View.{view};
 
-use crate::row::front;
-use crate::rules::apply;
 use crate::shown::Display;
+use crate::table::ClassTable;
 use carrier::answer::Answer;
 use carrier::carrier::Carrier;
 use label::category::is_silent;
@@ -17,15 +15,13 @@ use label::refusal::Refusal;
 
 impl<C: Carrier> Display<C> {
     // A display that holds nothing.
+    #[tactic(auto, using(crate::proofs::Rows::new_table))]
     pub fn new() -> Self
         ensures { view C.state result ≡ new_display C.meaning }
     {
         Display {
             carrier: C::new(),
-            rows: [[0; 128]; 64],
-            lens: [0; 64],
-            toggle: None,
-            running: false,
+            table: ClassTable::default(),
         }
     }
 
@@ -35,7 +31,7 @@ impl<C: Carrier> Display<C> {
         ensures shown { view C.state self.new ≡ display_step C.meaning (view C.state self.old) frame.now }
     {
         let answer = self.carrier.take(frame)?;
-        if let Answer::Complete = answer {
+        if answer == Answer::Complete {
             self.show();
         }
         Ok(answer)
@@ -43,30 +39,12 @@ impl<C: Carrier> Display<C> {
 
     // Applies the rules to the complete label.
     fn show(&mut self)
-        requires { is_some (C.meaning.told (C.state self.old.carrier)) ≡ true }
         ensures carrier { self.new.carrier ≡ self.old.carrier }
         ensures table { (view C.state self.new).table ≡ on_told (view C.state self.old).table (C.meaning.told (C.state self.old.carrier)) }
     {
-        let item = self.carrier.item();
-        apply(
-            &mut self.rows,
-            &mut self.lens,
-            self.toggle,
-            item,
-            self.carrier.text(),
-            self.carrier.tags(),
-        );
-        self.toggle = Some(item.toggle);
-        self.running = item.running;
-    }
-
-    // What is held for a class.
-    pub(crate) fn row(&self, class: u8) -> &[u8]
-        requires { class < 64 }
-        ensures { result.now ≡ row_of self.now.rows self.now.lens class }
-    {
-        let c = class as usize;
-        front(&self.rows[c], self.lens[c])
+        if let Some(told) = self.carrier.told() {
+            self.table.apply(told);
+        }
     }
 
     // Copies what is held for a class to the buffer's start, and returns its length, 0 for nothing.
@@ -78,11 +56,11 @@ impl<C: Carrier> Display<C> {
         if is_silent(class) {
             return Err(Refusal::UnreadableClass);
         }
-        let text = self.row(class);
+        let text = self.table.row(class);
         if buf.len() < text.len() {
             return Err(Refusal::ShortBuffer);
         }
-        buf[0..text.len()].copy_from_slice(text);
+        buf[..text.len()].copy_from_slice(text);
         Ok(text.len())
     }
 }

@@ -2,7 +2,6 @@
 #![tactic(auto)]
 
 pub mod display;
-mod row;
-mod rules;
 pub mod shown;
+mod table;
 pub mod told;
