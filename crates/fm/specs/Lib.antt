@@ -1,7 +1,7 @@
 pub mod Frames
 pub mod Text
-pub mod Held
 pub mod Taking
+pub mod Blocks
 pub mod Views
 pub mod Laws
 pub mod Aired

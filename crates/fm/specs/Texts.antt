@@ -1,8 +1,11 @@
 -- A label's text in FM's segments.
-use Rattle.std.specs.Prelude.{◌≡◌, ℕ, zero, suc, ◌*◌, ◌/◌, ◌<◌, ◌≤◌, true, false, cond, ◌||◌, List, [], ◌∷◌, ◌++◌, length, take, drop, ◌==◌, refl}
-use Rattle.std.proofs.Common.{sym, ap, subst, ◌∙◌, inl, inr, ⊎_elim, arith, length-drop}
+use Rattle.std.specs.Prelude.{◌≡◌, ℕ, zero, suc, ◌*◌, ◌/◌, ◌<◌, ◌≤◌, true, false, cond, List, [], ◌∷◌, ◌++◌, length, take, drop, nat_lt, refl}
+use Rattle.std.proofs.Common.{sym, ap, ◌∙◌, inl, inr, ⊎_elim, arith, length-drop}
 use Rattle.std.proofs.lemmas.List.{take_all, take-append-le, drop-append-le}
-use Rattle.std.proofs.lemmas.Bool.{ne_eqb, lt-ltb, le-ltb, ltb-false, or_parts, or_from, cases_lt, cond-false}
+use Rattle.std.proofs.lemmas.Bool.Decides.{nat_tests}
+use Rattle.std.proofs.lemmas.Grind.{common_steps}
+use Rattle.std.proofs.lemmas.Bool.{ltb-true, ltb-false}
+use Rattle.std.proofs.lemmas.Bool.{cases_lt}
 use Rattle.label.specs.Drafts.{control}
 use Rattle.label.specs.Lists.{any}
 use Rattle.taking.specs.Segments.{SegmentsOf}
@@ -11,44 +14,36 @@ use Rattle.fm.specs.Frames.{last_segment, segment}
 use Rattle.fm.specs.Text.{fm_segments, has_return, before_return}
 
 -- a row without bytes below 0x20 has no 0x0D
-printing_byte : (b : ℕ) → control b ≡ false → (b == 13) ≡ false
-printing_byte b e = let h = ltb-false b 32 e in ne_eqb b 13 (omega arith)
-
 printing_return : (xs : List ℕ) → any control xs ≡ false → has_return xs ≡ false
 printing_return [] e = refl
-printing_return (x ∷ xs) e = let h = or_parts (control x) (any control xs) e in or_from _ _ (printing_byte x h.0) (printing_return xs h.1)
+printing_return (x ∷ xs) e = grind (arith, nat_tests, printing_return xs)
 
 printing_before : (xs : List ℕ) → any control xs ≡ false → before_return xs ≡ xs
 printing_before [] e = refl
-printing_before (x ∷ xs) e =
-    let h = or_parts (control x) (any control xs) e in
-    cond-false (x == 13) [] (x ∷ before_return xs) (printing_byte x h.0) ∙ ap (λ ys. x ∷ ys) (printing_before xs h.1)
+printing_before (x ∷ xs) e = grind (arith, nat_tests, printing_before xs)
 
 printing_drop : (n : ℕ) (xs : List ℕ) → any control xs ≡ false → any control (drop n xs) ≡ false
 printing_drop zero xs e = e
 printing_drop (suc n) [] e = refl
-printing_drop (suc n) (x ∷ xs) e = printing_drop n xs (or_parts (control x) (any control xs) e).1
+printing_drop (suc n) (x ∷ xs) e = grind (arith, nat_tests, printing_drop n xs)
 
 printing_take : (n : ℕ) (xs : List ℕ) → any control xs ≡ false → any control (take n xs) ≡ false
 printing_take zero xs e = refl
 printing_take (suc n) [] e = refl
-printing_take (suc n) (x ∷ xs) e = let h = or_parts (control x) (any control xs) e in or_from _ _ h.0 (printing_take n xs h.1)
+printing_take (suc n) (x ∷ xs) e = grind (arith, nat_tests, printing_take n xs)
 
 -- the closing 0x0D within the next n bytes
 closed_return : (n : ℕ) (xs ys : List ℕ) → length xs < n → any control xs ≡ false → has_return (take n (xs ++ (13 ∷ ys))) ≡ true
 closed_return zero xs ys c e = absurd (omega arith)
 closed_return (suc n) [] ys c e = refl
-closed_return (suc n) (x ∷ xs) ys c e =
-    let h = or_parts (control x) (any control xs) e in ap (λ b. b || has_return (take n (xs ++ (13 ∷ ys)))) (printing_byte x h.0) ∙ closed_return n xs ys (omega arith) h.1
+closed_return (suc n) (x ∷ xs) ys c e = grind (arith, nat_tests, closed_return n xs ys)
 
 closed_before : (n : ℕ) (xs ys : List ℕ) → length xs < n → any control xs ≡ false → before_return (take n (xs ++ (13 ∷ ys))) ≡ xs
 closed_before zero xs ys c e = absurd (omega arith)
 closed_before (suc n) [] ys c e = refl
-closed_before (suc n) (x ∷ xs) ys c e =
-    let h = or_parts (control x) (any control xs) e in
-    cond-false (x == 13) [] _ (printing_byte x h.0) ∙ ap (λ zs. x ∷ zs) (closed_before n xs ys (omega arith) h.1)
+closed_before (suc n) (x ∷ xs) ys c e = grind (arith, nat_tests, closed_before n xs ys)
 
--- FM
+-- the closing 0x0D, and the spaces that fill a segment
 abbrev closing : List ℕ
 closing = 0x0D ∷ 0x20 ∷ 0x20 ∷ 0x20 ∷ []
 
@@ -73,7 +68,7 @@ module _ (x : List ℕ) (pr : any control x ≡ false) where
     fm_inside i c = ap (take 4) (drop-append-le (4 * i) x closing (omega arith)) ∙ take-append-le 4 (drop (4 * i) x) closing (simp length-drop (omega arith))
 
     fm_closing : (i : ℕ) → i ≡ length x / 4 → drop (4 * i) (x ++ closing) ≡ drop (4 * i) x ++ closing
-    fm_closing i c = drop-append-le (4 * i) x closing (omega arith)
+    fm_closing i c = grind (arith, common_steps)
 
     fm_cut : (i : ℕ) → i < suc (length x / 4) → before_return (take 4 (drop (4 * i) (x ++ closing))) ≡ take 4 (drop (4 * i) x)
     fm_cut i c =
@@ -96,6 +91,5 @@ module _ (x : List ℕ) (pr : any control x ≡ false) where
 
   pub fm_text : length x ≤ 64 → SegmentsOf fm_segments x (last_segment (length x)) (segment x)
   fm_text c =
-      ⊎_elim (λ e. subst (λ b. SegmentsOf fm_segments x (cond b (length x / 4) 15) (λ i. take 4 (drop (4 * i) (cond b (x ++ closing) x)))) (sym (lt-ltb (length x) 64 e)) (fm_short e))
-      (λ e. subst (λ b. SegmentsOf fm_segments x (cond b (length x / 4) 15) (λ i. take 4 (drop (4 * i) (cond b (x ++ closing) x)))) (sym (le-ltb (length x) 64 e)) (fm_full (omega arith)))
-      (cases_lt (length x) 64)
+      elim (nat_lt (length x) 64) as (λ b. nat_lt (length x) 64 ≡ b → SegmentsOf fm_segments x (cond b (length x / 4) 15) (λ i. take 4 (drop (4 * i) (cond b (x ++ closing) x))))
+      [ true ↦ λ e. fm_short (ltb-true (length x) 64 e) | false ↦ λ e. fm_full (omega (arith, ltb-false (length x) 64 e)) ] refl

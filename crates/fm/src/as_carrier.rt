@@ -1,64 +1,18 @@
-ghost use Rattle.std.specs.Prelude.{◌≡◌, ◌<◌, true};
-ghost use Rattle.label.specs.Drafts.{sealed_outline, matches};
-ghost use Rattle.label.specs.Label.{label_of};
-ghost use Rattle.carrier.specs.Writing.{place};
-ghost use Rattle.fm.specs.Frames.{fm_frame, fm_writing};
 ghost use Rattle.fm.specs.Taking.{FmState, fm};
 ghost use Rattle.fm.specs.Views.{fm_view};
 ghost use Rattle.fm.specs.Laws.{fm_lawful};
 
+use crate::blocks::Blocks;
 use crate::fm::Fm;
-use crate::frame::{announcing, last, tags_group, text_segment};
-use crate::take::{is_announcement, is_version_a, is_whole};
+use crate::frame::{ANNOUNCEMENT, TEXT, frame, last_segment};
+use carrier::airing::Airing;
 use carrier::answer::Answer;
 use carrier::carrier::Carrier;
-use carrier::writing::{PLACE, in_place, why_not_write};
+use carrier::told::Told;
+use carrier::writing::{PLACE, in_place, may_write};
 use label::refusal::Refusal;
 use label::sealed::Sealed;
-use label::tag::{ItemBits, Tag};
-use taking::pieces::Pieces;
 use taking::taken::Taking;
-
-// One frame.
-fn frame(
-    label: &Sealed,
-    item: ItemBits,
-    text: &[u8],
-    toggle: bool,
-    service: u16,
-    number: usize,
-) -> [u8; 8]
-    requires fit { fm_writing.fits (sealed_outline label.now) ≡ true }
-    requires over { matches (sealed_outline label.now) text.now ≡ true }
-    requires one { number < fm_writing.count (sealed_outline label.now) }
-    ensures { result ≡ fm_frame (label_of (sealed_outline label.now) item text.now) toggle service number }
-{
-    let last = last(text.len());
-    if number <= last {
-        return text_segment(text, toggle, service, number);
-    }
-    if number == last + 1 {
-        return announcing(service);
-    }
-    tags_group(item, label.tags(), service)
-}
-
-// One frame in its place.
-fn lay(
-    label: &Sealed,
-    item: ItemBits,
-    text: &[u8],
-    toggle: bool,
-    service: u16,
-    number: usize,
-) -> [u8; 21]
-    requires fit { fm_writing.fits (sealed_outline label.now) ≡ true }
-    requires over { matches (sealed_outline label.now) text.now ≡ true }
-    requires one { number < fm_writing.count (sealed_outline label.now) }
-    ensures { result ≡ place (fm_frame (label_of (sealed_outline label.now) item text.now) toggle service number) }
-{
-    in_place(&frame(label, item, text, toggle, service, number))
-}
 
 impl Carrier for Fm {
     ghost State = { FmState };
@@ -74,30 +28,18 @@ impl Carrier for Fm {
     }
 
     fn count(label: &Sealed) -> usize {
-        last(label.len()) + 3
+        last_segment(label.len()) + 3
     }
 
-    fn write(
-        label: &Sealed,
-        item: ItemBits,
-        text: &[u8],
-        toggle: bool,
-        service: u16,
-        number: usize,
-        space: &mut [u8],
-    ) -> Result<(), Refusal> {
-        if let Some(refusal) = why_not_write(
-            Self::fits(label),
-            Self::count(label),
-            label,
-            text,
+    fn write(airing: &Airing<'_>, number: usize, space: &mut [u8]) -> Result<(), Refusal> {
+        may_write(
+            Self::fits(airing.label),
+            Self::count(airing.label),
+            airing,
             number,
             space.len(),
-        ) {
-            return Err(refusal);
-        }
-        let place = lay(label, item, text, toggle, service, number);
-        space[0..PLACE].copy_from_slice(&place);
+        )?;
+        space[..PLACE].copy_from_slice(&in_place(&frame(airing, number)));
         Ok(())
     }
 
@@ -109,42 +51,23 @@ impl Carrier for Fm {
     }
 
     fn take(&mut self, frame: &[u8]) -> Result<Answer, Refusal> {
-        if !is_whole(frame) {
-            return Err(Refusal::WrongSize);
-        }
-        if !is_version_a(frame) {
+        let blocks = Blocks::try_from(frame)?;
+        if !blocks.is_version_a() {
             return Ok(Answer::PassedOver);
         }
-        let group = frame[2] / 16;
-        if group == 2 {
-            return Ok(self.take_text(frame));
+        match blocks.group() {
+            TEXT => Ok(self.take_text(&blocks)),
+            ANNOUNCEMENT if blocks.is_announcement() => self.learn(&blocks),
+            group if self.group == Some(group) => self.take_tags(&blocks),
+            _ => Ok(Answer::PassedOver),
         }
-        if is_announcement(frame) {
-            return self.learn(frame);
-        }
-        if self.has_learnt(group) {
-            return self.take_tags(frame);
-        }
-        Ok(Answer::PassedOver)
     }
 
     fn standing(&self) -> Option<bool> {
         self.taking.standing()
     }
 
-    fn is_complete(&self) -> bool {
-        self.taking.is_complete()
-    }
-
-    fn text(&self) -> &[u8] {
-        self.taking.text()
-    }
-
-    fn tags(&self) -> &[Tag] {
-        self.taking.tags()
-    }
-
-    fn item(&self) -> ItemBits {
-        self.taking.item()
+    fn told(&self) -> Option<&Told> {
+        self.taking.told()
     }
 }

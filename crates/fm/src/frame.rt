@@ -1,96 +1,80 @@
-ghost use Rattle.std.specs.Prelude.{◌≡◌, ◌+◌, ◌*◌, ◌^◌, ◌<◌, ◌≤◌, length, if◌then◌else◌, slice_index};
-ghost use Rattle.fm.specs.Frames.{last_segment, closed, text_frame, announcing_frame, sent_tags, first_tag, second_tag, tag_bits, bits_frame, tags_frame};
+ghost use Rattle.std.specs.Prelude.{◌≡◌, true, ◌+◌, ◌*◌, ◌^◌, ◌<◌, ◌≤◌, ◌++◌, length, slice_index};
+ghost use Rattle.label.specs.Drafts.{matches};
+ghost use Rattle.carrier.specs.Aired.{outline, frame_of};
+ghost use Rattle.fm.specs.Frames.{last_segment, closed, segment, block_1, block_2, text_frame, announcing_frame, first_tag, second_tag, sent_tags, tag_bits, tags_frame, fm_writing};
 
+use carrier::airing::Airing;
 use label::tag::{ItemBits, Tag};
 
-// A byte of the closed text.
-fn text_byte(text: &[u8], at: usize) -> u8
-    requires { at < length (closed text.now) }
-    ensures { result ≡ slice_index (closed text.now) at }
-{
-    if at < text.len() {
-        return text[at];
-    }
-    if at == text.len() {
-        return 0x0D;
-    }
-    0x20
-}
+// The types of the groups that are sent.
+pub(crate) const TEXT: u8 = 2;
 
-fn bit(b: bool) -> u64
-    ensures { result ≡ (if b then 1 else 0) }
-{
-    if b { 1 } else { 0 }
-}
+pub(crate) const ANNOUNCEMENT: u8 = 3;
 
-// The announcement of the tag group, 11A.
-pub(crate) fn announcing(service: u16) -> [u8; 8]
-    ensures { result ≡ announcing_frame service }
-{
-    [
-        (service / 256) as u8,
-        (service % 256) as u8,
-        0x30,
-        22,
-        0,
-        0,
-        0x4B,
-        0xD7,
-    ]
-}
+const TAGS: u8 = 11;
 
-// The 37 bits of a tag group.
-fn pack(item: ItemBits, t: Tag, u: Tag) -> u64
-    ensures value { result ≡ tag_bits item t u }
-    ensures bound { result < 2 ^ 40 }
-{
-    let first = ((bit(item.toggle) * 2 + bit(item.running)) * 64 + t.class as u64) * 64
-        + t.start as u64;
-    let second = (first * 64 + t.extent as u64) * 64 + u.class as u64;
-    (second * 64 + u.start as u64) * 32 + u.extent as u64
-}
-
-// A text segment.
-pub(crate) fn text_segment(text: &[u8], toggle: bool, service: u16, s: usize) -> [u8; 8]
-    requires few { s < 16 }
-    requires inside { 4 * s + 4 ≤ length (closed text.now) }
-    ensures { result ≡ text_frame text.now toggle service s }
-{
-    let own = bit(toggle) * 16 + s as u64;
-    [
-        (service / 256) as u8,
-        (service % 256) as u8,
-        0x20,
-        own as u8,
-        text_byte(text, 4 * s),
-        text_byte(text, 4 * s + 1),
-        text_byte(text, 4 * s + 2),
-        text_byte(text, 4 * s + 3),
-    ]
-}
-
-// The tag group with its 37 bits.
-pub(crate) fn tag_group(bits: u64, service: u16) -> [u8; 8]
-    requires { bits < 2 ^ 40 }
-    ensures { result ≡ bits_frame service bits }
-{
-    [
-        (service / 256) as u8,
-        (service % 256) as u8,
-        0xB0,
-        (bits / 0x1_0000_0000) as u8,
-        (bits / 0x100_0000 % 256) as u8,
-        (bits / 0x1_0000 % 256) as u8,
-        (bits / 256 % 256) as u8,
-        (bits % 256) as u8,
-    ]
-}
+// RT+, by the number under which applications are announced.
+pub(crate) const APPLICATION: u16 = 0x4BD7;
 
 // The number of the last text segment.
-pub(crate) fn last(len: usize) -> usize
+pub(crate) fn last_segment(len: usize) -> usize
     ensures { result ≡ last_segment len }
 {
     if len < 64 { len / 4 } else { 15 }
+}
+
+// A byte of the closed text.
+fn closed_byte(text: &[u8], at: usize) -> u8
+    requires { at < length (closed text.now) }
+    ensures { result ≡ slice_index (closed text.now) at }
+{
+    match text.get(at) {
+        Some(b) => *b,
+        None if at == text.len() => 0x0D,
+        None => 0x20,
+    }
+}
+
+// The four bytes of a text segment.
+fn segment(text: &[u8], number: usize) -> [u8; 4]
+    requires { 4 * number + 4 ≤ length (closed text.now) }
+    ensures { result ≡ segment text.now number }
+{
+    let at = 4 * number;
+    [
+        closed_byte(text, at),
+        closed_byte(text, at + 1),
+        closed_byte(text, at + 2),
+        closed_byte(text, at + 3),
+    ]
+}
+
+// A frame of version A: its service, group type, own bits, and the bytes of blocks 3 and 4.
+fn blocks(service: u16, group: u8, own: u8, bytes: [u8; 4]) -> [u8; 8]
+    requires { group < 16 }
+    ensures { result ≡ block_1 service ++ block_2 group own ++ bytes }
+{
+    let [high, low] = service.to_be_bytes();
+    let [p, q, r, s] = bytes;
+    [high, low, group * 16, own, p, q, r, s]
+}
+
+// A text segment's frame.
+fn text_segment(airing: &Airing<'_>, number: usize) -> [u8; 8]
+    requires few { number < 16 }
+    requires inside { 4 * number + 4 ≤ length (closed airing.now.text.now) }
+    ensures { result ≡ text_frame airing.now.text.now airing.now.toggle airing.now.service number }
+{
+    let own = u8::from(airing.toggle) * 16 + number as u8;
+    blocks(airing.service, TEXT, own, segment(airing.text, number))
+}
+
+// The announcement of the tag group, 11A.
+fn announcing(service: u16) -> [u8; 8]
+    ensures { result ≡ announcing_frame service }
+{
+    let [high, low] = APPLICATION.to_be_bytes();
+    blocks(service, ANNOUNCEMENT, TAGS * 2, [0, 0, high, low])
 }
 
 // The two tags as they are sent.
@@ -98,22 +82,48 @@ fn pair(tags: &[Tag]) -> (Tag, Tag)
     ensures first { result.0 ≡ first_tag (sent_tags tags.now) }
     ensures second { result.1 ≡ second_tag (sent_tags tags.now) }
 {
-    let dummy = Tag {
-        class: 0,
-        start: 0,
-        extent: 0,
-    };
     match tags {
-        [] => (dummy, dummy),
-        [t] => (*t, dummy),
-        [t, u, ..] => { if u.extent >= 32 { (*u, *t) } else { (*t, *u) } }
+        [] => (Tag::default(), Tag::default()),
+        [t] => (*t, Tag::default()),
+        [t, u, ..] if u.extent >= 32 => (*u, *t),
+        [t, u, ..] => (*t, *u),
     }
 }
 
-// The tag group for these tags.
-pub(crate) fn tags_group(item: ItemBits, tags: &[Tag], service: u16) -> [u8; 8]
+// The 37 bits of a tag group.
+fn pack(item: ItemBits, t: Tag, u: Tag) -> u64
+    ensures value { result ≡ tag_bits item t u }
+    ensures bound { result < 2 ^ 40 }
+{
+    let item = u64::from(item.toggle) * 2 + u64::from(item.running);
+    let first = ((item * 64 + u64::from(t.class)) * 64 + u64::from(t.start)) * 64
+        + u64::from(t.extent);
+    ((first * 64 + u64::from(u.class)) * 64 + u64::from(u.start)) * 32 + u64::from(u.extent)
+}
+
+// The tag group's frame.
+fn tags_group(item: ItemBits, tags: &[Tag], service: u16) -> [u8; 8]
     ensures { result ≡ tags_frame item tags.now service }
 {
     let (t, u) = pair(tags);
-    tag_group(pack(item, t, u), service)
+    let [_, _, _, own, p, q, r, s] = pack(item, t, u).to_be_bytes();
+    blocks(service, TAGS, own, [p, q, r, s])
+}
+
+// A label's frame: text segments, then the announcement, then the tag group.
+#[tactic(auto, unfolding(crate::specs::Frames::fm_frame))]
+pub(crate) fn frame(airing: &Airing<'_>, number: usize) -> [u8; 8]
+    requires fit { fm_writing.fits (outline airing.now) ≡ true }
+    requires over { matches (outline airing.now) airing.now.text.now ≡ true }
+    requires one { number < fm_writing.count (outline airing.now) }
+    ensures { result ≡ frame_of fm_writing airing.now number }
+{
+    let last = last_segment(airing.text.len());
+    if number <= last {
+        text_segment(airing, number)
+    } else if number == last + 1 {
+        announcing(airing.service)
+    } else {
+        tags_group(airing.item, airing.label.tags(), airing.service)
+    }
 }

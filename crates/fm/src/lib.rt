@@ -2,8 +2,8 @@
 #![tactic(auto)]
 
 pub mod as_carrier;
+mod blocks;
 pub mod fm;
 mod frame;
-mod pieces;
 mod take;
 pub mod text;

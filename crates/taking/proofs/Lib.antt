@@ -3,6 +3,7 @@ pub mod Carried
 pub mod Joining
 pub mod Idling
 pub mod Sounding
+pub mod Rows
 pub mod Steps
 pub mod Cutting
 pub mod Telling

@@ -2,9 +2,13 @@
 #![tactic(auto)]
 
 pub mod arrived;
+pub mod held;
 pub mod look;
 pub mod pieces;
+pub mod row;
+pub mod segment;
 pub mod take;
 pub mod taken;
 pub mod tell;
-pub mod told;
+#[cfg(test)]
+mod tests;

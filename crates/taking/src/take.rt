@@ -1,4 +1,6 @@
-ghost use Rattle.std.specs.Prelude.{◌≡◌, Bool, Some, None};
+ghost use Rattle.std.specs.Prelude.{◌≡◌, None};
+ghost use Rattle.std.specs.Option.{option_map};
+ghost use Rattle.carrier.specs.Aired.{told_label};
 ghost use Rattle.carrier.specs.Meaning.{answered, reply, next};
 ghost use Rattle.taking.specs.Taking.{new_taken, stands, begun, settled, held_again, put_in, on_text, on_tags, forgotten, waiting_for, tags_met};
 ghost use Rattle.taking.specs.Views.{view, tags_of};
@@ -8,17 +10,8 @@ use crate::look::Look;
 use crate::pieces::Pieces;
 use crate::taken::Taking;
 use carrier::answer::Answer;
+use carrier::told::Told;
 use label::refusal::Refusal;
-
-// The toggle is the standing one.
-fn is_standing(standing: Option<bool>, toggle: bool) -> bool
-    ensures { result ≡ stands standing toggle }
-{
-    match standing {
-        None => false,
-        Some(t) => t == toggle,
-    }
-}
 
 impl<P: Pieces> Taking<P> {
     pub fn new() -> Self
@@ -32,6 +25,27 @@ impl<P: Pieces> Taking<P> {
         }
     }
 
+    // The standing message toggle, unknown when new.
+    pub fn standing(&self) -> Option<bool>
+        ensures { result ≡ (view P.held self.now).standing }
+    {
+        self.standing
+    }
+
+    // The complete label.
+    pub fn told(&self) -> Option<&Told>
+        ensures { option_map (λ t. told_label t.now) result ≡ (view P.held self.now).told }
+    {
+        self.told.as_ref()
+    }
+
+    // The toggle is the standing one.
+    fn stands(&self, toggle: bool) -> bool
+        ensures { result ≡ stands (view P.held self.now).standing toggle }
+    {
+        self.standing == Some(toggle)
+    }
+
     // Forgets text, tags and completeness; the toggle stands.
     fn forget(&mut self, toggle: bool)
         ensures { view P.held self.new ≡ forgotten P.pieces toggle }
@@ -43,22 +57,22 @@ impl<P: Pieces> Taking<P> {
     }
 
     // Forgets all, and holds the piece as the first of a new text.
-    fn begin(&mut self, toggle: bool, piece: &P::Piece)
-        ensures { view P.held self.new ≡ begun P.pieces toggle (P.meant piece.now) }
+    fn begin(&mut self, toggle: bool, piece: P::Piece)
+        ensures { view P.held self.new ≡ begun P.pieces toggle (P.meant piece) }
     {
         self.forget(toggle);
         self.pieces.put(piece);
     }
 
     // A piece of a text arrives.
-    pub fn on_text(&mut self, toggle: bool, piece: &P::Piece) -> Answer
-        ensures { on_text P.pieces (view P.held self.old) toggle (P.meant piece.now) ≡ answered result (view P.held self.new) }
+    pub fn on_text(&mut self, toggle: bool, piece: P::Piece) -> Answer
+        ensures { on_text P.pieces (view P.held self.old) toggle (P.meant piece) ≡ answered result (view P.held self.new) }
     {
-        if !is_standing(self.standing, toggle) {
+        if !self.stands(toggle) {
             self.begin(toggle, piece);
             return Answer::Kept;
         }
-        match self.pieces.look(piece) {
+        match self.pieces.look(&piece) {
             Look::Behind => Answer::PassedOver,
             Look::Unlike => {
                 self.begin(toggle, piece);
@@ -78,16 +92,14 @@ impl<P: Pieces> Taking<P> {
         }
     }
 
-    fn put_in(&mut self, piece: &P::Piece) -> Answer
-        ensures { put_in P.pieces (view P.held self.old) (P.meant piece.now) (view P.held self.old).told ≡ answered result (view P.held self.new) }
+    fn put_in(&mut self, piece: P::Piece) -> Answer
+        ensures { put_in P.pieces (view P.held self.old) (P.meant piece) (view P.held self.old).told ≡ answered result (view P.held self.new) }
     {
-        match self.told {
-            Some(_) => Answer::Again,
-            None => {
-                self.pieces.put(piece);
-                self.settle()
-            }
+        if self.told.is_some() {
+            return Answer::Again;
         }
+        self.pieces.put(piece);
+        self.settle()
     }
 
     // A piece was put in while no label is complete.
@@ -95,71 +107,59 @@ impl<P: Pieces> Taking<P> {
         requires { (view P.held self.old).told ≡ None }
         ensures { settled (view P.held self.old) (P.pieces.text (view P.held self.old).held) (view P.held self.old).waiting ≡ answered result (view P.held self.new) }
     {
-        let Some(arrived) = self.waiting else {
+        let Some(text) = self.pieces.text() else {
             return Answer::Kept;
         };
-        let mut text = [0u8; 128];
-        let Some(len) = self.pieces.text(&mut text) else {
+        let Some(arrived) = self.waiting.take() else {
             return Answer::Kept;
         };
-        self.waiting = None; // told, or unlawful for the text
-        if !arrived.are_lawful(len) {
+        if !arrived.are_lawful(text.len()) {
             return Answer::Dropped;
         }
-        self.told = Some(arrived.tell(text, len));
+        self.told = Some(arrived.tell(text));
         Answer::Complete
     }
 
     // Forgets all, and the tags wait.
-    fn begin_tags(&mut self, toggle: bool, arrived: &Arrived)
-        ensures { view P.held self.new ≡ waiting_for (forgotten P.pieces toggle) (tags_of arrived.now) }
+    fn begin_tags(&mut self, toggle: bool, arrived: Arrived)
+        ensures { view P.held self.new ≡ waiting_for (forgotten P.pieces toggle) (tags_of arrived) }
     {
         self.forget(toggle);
-        self.waiting = Some(*arrived);
+        self.waiting = Some(arrived);
     }
 
     // Tags arrive, with their message toggle where the carrier's tags have one.
-    pub fn on_tags(&mut self, toggle: Option<bool>, arrived: &Arrived) -> Result<Answer, Refusal>
-        ensures reply { result ≡ reply (on_tags P.pieces (view P.held self.old) toggle (tags_of arrived.now)) }
-        ensures next { view P.held self.new ≡ next (view P.held self.old) (on_tags P.pieces (view P.held self.old) toggle (tags_of arrived.now)) }
+    pub fn on_tags(&mut self, toggle: Option<bool>, arrived: Arrived) -> Result<Answer, Refusal>
+        ensures reply { result ≡ reply (on_tags P.pieces (view P.held self.old) toggle (tags_of arrived)) }
+        ensures next { view P.held self.new ≡ next (view P.held self.old) (on_tags P.pieces (view P.held self.old) toggle (tags_of arrived)) }
     {
         match toggle {
-            None => self.tags_here(arrived),
-            Some(t) => {
-                if is_standing(self.standing, t) {
-                    self.tags_here(arrived)
-                } else {
-                    self.begin_tags(t, arrived);
-                    Ok(Answer::Kept)
-                }
+            Some(toggle) if !self.stands(toggle) => {
+                self.begin_tags(toggle, arrived);
+                Ok(Answer::Kept)
             }
+            _ => self.tags_here(arrived),
         }
     }
 
     // Tags under the standing toggle.
-    fn tags_here(&mut self, arrived: &Arrived) -> Result<Answer, Refusal>
-        ensures reply { result ≡ reply (tags_met (view P.held self.old) (view P.held self.old) (tags_of arrived.now) (P.pieces.text (view P.held self.old).held)) }
-        ensures next { view P.held self.new ≡ next (view P.held self.old) (tags_met (view P.held self.old) (view P.held self.old) (tags_of arrived.now) (P.pieces.text (view P.held self.old).held)) }
+    fn tags_here(&mut self, arrived: Arrived) -> Result<Answer, Refusal>
+        ensures reply { result ≡ reply (tags_met (view P.held self.old) (view P.held self.old) (tags_of arrived) (P.pieces.text (view P.held self.old).held)) }
+        ensures next { view P.held self.new ≡ next (view P.held self.old) (tags_met (view P.held self.old) (view P.held self.old) (tags_of arrived) (P.pieces.text (view P.held self.old).held)) }
     {
-        let mut text = [0u8; 128];
-        let Some(len) = self.pieces.text(&mut text) else {
-            self.waiting = Some(*arrived);
+        let Some(text) = self.pieces.text() else {
+            self.waiting = Some(arrived);
             return Ok(Answer::Kept);
         };
-        if !arrived.are_lawful(len) {
+        if !arrived.are_lawful(text.len()) {
             return Err(Refusal::TagsUnlawful);
         }
         match &self.told {
-            Some(told) => {
-                if told.agrees(arrived) {
-                    Ok(Answer::Again)
-                } else {
-                    Err(Refusal::TagsUnlike)
-                }
-            }
+            Some(told) if arrived.agree_with(told) => Ok(Answer::Again),
+            Some(_) => Err(Refusal::TagsUnlike),
             None => {
                 self.waiting = None; // newer tags replace them
-                self.told = Some(arrived.tell(text, len));
+                self.told = Some(arrived.tell(text));
                 Ok(Answer::Complete)
             }
         }

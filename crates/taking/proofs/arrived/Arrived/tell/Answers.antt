@@ -1,5 +1,4 @@
 use Rattle.std.proofs.Common.{◌≤◌, length, ap, ◌∙◌, arith}
-use Rattle.std.proofs.lemmas.List.{length-take}
 use Rattle.label.specs.Lawful.{sealable}
 use Rattle.label.specs.Tags.{sounding}
 use Rattle.label.proofs.Sounding.{sealable_sounding}
@@ -8,7 +7,7 @@ use Rattle.taking.proofs.arrived.Arrived.tell.Goals as goal
 
 pub invariant_of-result : goal.invariant_of-result
 invariant_of-result c =
-    let ts = (tags_of c.args.self.now).tags in
-    let e = c.sounded-count.ensures.tags in
-    let few : length (sounding ts) ≤ 4 = omega (arith, ap length e, length-take c.sounded-count.result.count c.sounded-count.result.tags, c.sounded-count.result.few) in
-    record { short = c.requires.short; few = c.sounded-count.result.few; right = ap (sealable c.args.len) e ∙ sealable_sounding c.args.len ts few c.requires.right }
+    let n = length c.args.text.items in
+    let ts = (tags_of c.args.self).tags in
+    let few : length (sounding ts) ≤ 4 = omega (arith, ap length c.sounded.ensures.tags) in
+    record { right = ap (sealable n) c.sounded.ensures.tags ∙ sealable_sounding n ts few c.requires.lawful }

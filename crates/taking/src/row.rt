@@ -1,0 +1,135 @@
+ghost use Rattle.std.specs.Prelude.{◌≡◌, suc, ◌-◌, ◌<◌, ◌≤◌, length, is_some};
+ghost use Rattle.std.specs.List.{list_any};
+ghost use Rattle.std.specs.Option.{option_map};
+ghost use Rattle.taking.specs.Rows.{held_in, row_held, piece_meant};
+ghost use Rattle.taking.specs.Segments.{Held, Numbered, ends_at, ends_below, any_from, look_at, look_segment, read_from, in_segments};
+ghost use Rattle.taking.specs.Reading.{nothing_read};
+
+use crate::held::{Piece, Row};
+use crate::look::Look;
+use crate::pieces::Pieces;
+use crate::segment::Segment;
+use arrayvec::ArrayVec;
+
+// The text ends in this segment.
+fn ends<S: Segment<N>, const N: usize>(held: &Option<S>) -> bool
+    ensures { result ≡ ends_at S.segments (option_map S.meant held.now) }
+{
+    match held {
+        None => false,
+        Some(segment) => segment.ends(),
+    }
+}
+
+// The text ends in one of these segments.
+fn any_ends<S: Segment<N>, const N: usize>(segments: &[Option<S>]) -> bool
+    ensures { result ≡ list_any (λ o. ends_at S.segments (option_map S.meant o)) segments.now }
+{
+    segments.iter().any(ends)
+}
+
+// The text ends in a held segment below the number.
+fn ends_before<S: Segment<N>, const N: usize>(segments: &[Option<S>], number: usize) -> bool
+    requires { number ≤ length segments.now }
+    ensures { result ≡ ends_below S.segments (held_in S.meant segments.now) number }
+{
+    any_ends(&segments[..number])
+}
+
+fn any_held<S>(segments: &[Option<S>]) -> bool
+    ensures { result ≡ list_any is_some segments.now }
+{
+    segments.iter().any(Option::is_some)
+}
+
+// A segment above the number is held.
+fn goes_on_after<S: Segment<N>, const N: usize>(segments: &[Option<S>], number: usize) -> bool
+    requires { number < length segments.now }
+    ensures { result ≡ any_from (held_in S.meant segments.now) (length segments.now - suc number) (suc number) }
+{
+    any_held(&segments[number + 1..])
+}
+
+// A segment beside the one that is held under its number.
+fn look_at<S: Segment<N>, const N: usize>(held: &Option<S>, segment: &S) -> Look
+    ensures { result ≡ look_at S.segments (option_map S.meant held.now) (S.meant segment.now) }
+{
+    match held {
+        None => Look::Fresh,
+        Some(own) if own.is_same(segment) => Look::Equal,
+        Some(_) => Look::Unlike,
+    }
+}
+
+// A segment with its number beside those that are held.
+fn look_in<S: Segment<N>, const N: usize>(
+    segments: &[Option<S>],
+    number: usize,
+    segment: &S,
+) -> Look
+    requires long { length segments.now ≡ N }
+    requires small { number < N }
+    ensures { result ≡ look_segment S.segments (held_in S.meant segments.now) (record { number = number; segment = S.meant segment.now }) }
+{
+    if ends_before(segments, number) {
+        return S::past();
+    }
+    if S::shuts() && segment.ends() && goes_on_after(segments, number) {
+        return Look::Unlike;
+    }
+    look_at(&segments[number], segment)
+}
+
+// The parts of the segments up to the one in which the text ends.
+fn joined<S: Segment<N>, const N: usize>(segments: &[Option<S>]) -> Option<ArrayVec<u8, 128>>
+    requires { length segments.now ≡ N }
+    ensures { read_from S.segments (held_in S.meant segments.now) N 0 ≡ option_map (λ t. t.items) result }
+{
+    let mut text = ArrayVec::new();
+    for segment in segments {
+        let segment = segment.as_ref()?;
+        text.try_extend_from_slice(segment.part()).unwrap();
+        if segment.ends() {
+            return Some(text);
+        }
+    }
+    S::ends_behind_all().then_some(text)
+}
+
+impl<S: Segment<N>, const N: usize> Pieces for Row<S, N> {
+    type Piece = Piece<S, N>;
+
+    ghost Held = { Held S.Meant };
+
+    ghost Meant = { Numbered S.Meant };
+
+    ghost held = { row_held S.meant };
+
+    ghost meant = { piece_meant S.meant };
+
+    ghost pieces = { in_segments S.segments };
+
+    ghost empty = { nothing_read S.segments N S.counts S.some };
+
+    fn new() -> Self {
+        Row {
+            segments: Default::default(),
+        }
+    }
+
+    fn clear(&mut self) {
+        *self = Self::new();
+    }
+
+    fn look(&self, piece: &Piece<S, N>) -> Look {
+        look_in(&self.segments, piece.number, &piece.segment)
+    }
+
+    fn put(&mut self, piece: Piece<S, N>) {
+        self.segments[piece.number] = Some(piece.segment);
+    }
+
+    fn text(&self) -> Option<ArrayVec<u8, 128>> {
+        joined(&self.segments)
+    }
+}
