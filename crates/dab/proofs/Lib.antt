@@ -1,5 +1,1 @@
-mod Places
-mod Segments
-mod Order
-mod Rows
 mod Arriving

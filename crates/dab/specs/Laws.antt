@@ -1,8 +1,8 @@
 -- DAB shows the carriers' laws.
-use Rattle.std.specs.Prelude.{◌≡◌, ℕ, ◌+◌, ◌*◌, ◌<◌, ◌≤◌, Bool, true, false, not, ◌&&◌, ◌||◌, List, [], ◌∷◌, length, drop, Ok, Err, Result, ◌==◌, nat_le, nat_lt, slice_index, refl}
-use Rattle.std.proofs.Common.{sym, ap, subst, ◌∙◌, ⊎_elim, length-take, length-drop}
+use Rattle.std.specs.Prelude.{◌≡◌, ℕ, ◌*◌, ◌<◌, ◌≤◌, Bool, true, false, cond, ◌&&◌, ◌||◌, List, [], ◌∷◌, length, drop, Ok, Err, Option, Result, ◌==◌, nat_le, nat_lt, slice_index, refl}
+use Rattle.std.proofs.Common.{sym, ap, ◌∙◌, length-take, length-drop}
 use native.Mathlib.Omega.{arith}
-use Rattle.std.proofs.lemmas.Bool.{and_parts, or_parts, not-true, ltb-false, leb-true, le-leb, lt-leb, cond-true, cond-false, cases_lt}
+use Rattle.std.proofs.lemmas.Bool.{and_parts, or_parts, not-true, ltb-false, leb-true, le-leb, lt-leb, cond-true, cond-false, cond_both}
 use Rattle.label.specs.declared.refusal.Refusal.{Refusal}
 use Rattle.label.specs.declared.refusal.Refusal.TheVariants.{WrongSize, WrongCheck, WrongLength, WrongCommand}
 use Rattle.label.specs.declared.tag.Tag.{Tag}
@@ -14,22 +14,23 @@ use Rattle.label.specs.Tags.{behind, lies_in, sounds}
 use Rattle.label.proofs.Sounding.{sounding_all}
 use Rattle.crc.specs.Check.{check_of}
 use Rattle.carrier.specs.Meaning.{Meaning, Outcome, answered, refused, next}
-use Rattle.carrier.specs.declared.answer.Answer.TheVariants.{PassedOver}
+use Rattle.carrier.specs.declared.answer.Answer.TheVariants.{PassedOver, Complete}
 use Rattle.carrier.specs.Hearing.{Begins, Hears, Lawful, Numbers, Sendable, completed, frames_of}
 use Rattle.taking.specs.Events.{piece, tags, on_event, completed_here, Within, Carries}
-use Rattle.taking.specs.Taking.{new_taken}
+use Rattle.taking.specs.Segments.{Numbered}
+use Rattle.taking.specs.Taking.{Tags, new_taken, on_text, on_tags}
 use Rattle.taking.proofs.Carried.{hears, tags_ready}
-use Rattle.taking.proofs.Idling.{Still, still_same, still_refused, still_cond, still_text, still_tags}
+use Rattle.taking.proofs.Idling.{Still, still_same, still_refused, still_text, still_tags}
+use Rattle.taking.proofs.Telling.{Tells, tells_refused, tells_other, tells_text, tells_tags}
 use Rattle.taking.proofs.Joining.{Part, Has, segment_pieces}
 use Rattle.dab.specs.Frames.{segment, last_segment, text_first, text_second, text_body, sent_tags, command_data, command_first, command_second, command_body, dab_body, dab_writing}
-use Rattle.dab.specs.Text.{dab_segments, dab_pieces, text_segment}
-use Rattle.dab.specs.Taking.{State, low_four, high_four, command_bit, segment_number, on_segment, whole_command, right_size, checked_part, check_part, data_part, take_text, take_command, take_body, step_by, dab}
+use Rattle.dab.specs.Text.{Flagged, dab_segments, dab_pieces, text_segment}
+use Rattle.dab.specs.Taking.{State, segment_number, on_segment, data_part, take_text, take_command, take_body, step_by, dab}
 use Rattle.dab.specs.TagBytes.{length_tags}
 use Rattle.dab.specs.Reopened.{framed_by, framed_long, opened}
 use Rattle.dab.specs.Heard.{AllSmall, text_heard, command_heard}
 use Rattle.dab.specs.OwnText.{own_text}
-use Rattle.dab.specs.OnAir.{texts, dab_air, dab_event, dab_airs}
-use Rattle.dab.specs.Telling.{Tells, tells_answer, tells_refused, tells_cond, tells_text, tells_tags}
+use Rattle.dab.specs.OnAir.{by_number, texts, dab_air, dab_event, dab_airs}
 
 -- what a label that may be sent gives
 pub record Fair (l : Label) : Type 0 where
@@ -93,6 +94,9 @@ dab_by check = record {
   told = λ s. s.told;
 }
 
+passed : PassedOver ≡ Complete → ⊥
+passed e = let z : ◌≡◌ {A = ℕ} 0 1 = cc in absurd (omega arith)
+
 module _ (check : List ℕ → ℕ) (small : (b : List ℕ) → check b < 65536) where
   completed_same : (o : Outcome State) → completed (dab_by check) o ≡ completed_here o
   completed_same (answered a u) = refl
@@ -101,18 +105,6 @@ module _ (check : List ℕ → ℕ) (small : (b : List ℕ) → check b < 65536)
   module _ (l : Label) (t : Bool) (v : ℕ) (z : Fair l) where
     abbrev last : ℕ
     last = last_segment (length l.text)
-
-    body_text : (n : ℕ) → n ≤ last → dab_body l t n ≡ text_body l.text t n
-    body_text n c = cond-true (nat_le n last) (text_body l.text t n) (command_body l.item (sent_tags l.tags) t) (le-leb n last c)
-
-    body_command : (n : ℕ) → last < n → dab_body l t n ≡ command_body l.item (sent_tags l.tags) t
-    body_command n c = cond-false (nat_le n last) (text_body l.text t n) (command_body l.item (sent_tags l.tags) t) (lt-leb n last c)
-
-    event_text : (s : State) (n : ℕ) → n ≤ last → dab_event l s n ≡ piece n
-    event_text s n c = cond-true (nat_le n last) (piece n) tags (le-leb n last c)
-
-    event_tags : (s : State) (n : ℕ) → last < n → dab_event l s n ≡ tags
-    event_tags s n c = cond-false (nat_le n last) (piece n) tags (lt-leb n last c)
 
     step_text : (s : State) (n : ℕ) → n ≤ last → step_by check s (framed_by check (text_body l.text t n)) ≡ on_event dab_pieces (dab_air l t) s (piece n)
     unfolding text_body
@@ -134,15 +126,16 @@ module _ (check : List ℕ → ℕ) (small : (b : List ℕ) → check b < 65536)
         ∙ command_heard s l.item (sent_tags l.tags) t so se z.small
 
     step_is : (s : State) (n : ℕ) → step_by check s (framed_by check (dab_body l t n)) ≡ on_event dab_pieces (dab_air l t) s (dab_event l s n)
-    step_is s n =
-        ⊎_elim
-        (λ (c : last < n). ap (λ b. step_by check s (framed_by check b)) (body_command n c) ∙ step_command s ∙ sym (ap (on_event dab_pieces (dab_air l t) s) (event_tags s n c)))
-        (λ (c : n ≤ last). ap (λ b. step_by check s (framed_by check b)) (body_text n c) ∙ step_text s n c ∙ sym (ap (on_event dab_pieces (dab_air l t) s) (event_text s n c)))
-        (cases_lt last n)
+    step_is s n = by_number l t s n (λ b e. step_by check s (framed_by check b) ≡ on_event dab_pieces (dab_air l t) s e) (step_text s n) (λ _. step_command s)
 
     within : (s : State) (n : ℕ) → Within (texts l) (dab_event l s n)
-    within s n =
-        ⊎_elim (λ (c : last < n). subst (Within (texts l)) (sym (event_tags s n c)) tt) (λ (c : n ≤ last). subst (Within (texts l)) (sym (event_text s n c)) (omega arith)) (cases_lt last n)
+    within s n = by_number l t s n (λ _ e. Within (texts l) e) (λ c. omega arith) (λ _. tt)
+
+    event_text : (s : State) (n : ℕ) → n ≤ last → dab_event l s n ≡ piece n
+    event_text s n c = cond-true (nat_le n last) (piece n) tags (le-leb n last c)
+
+    event_tags : (s : State) (n : ℕ) → last < n → dab_event l s n ≡ tags
+    event_tags s n c = cond-false (nat_le n last) (piece n) tags (lt-leb n last c)
 
     carries : Carries (dab_by check) dab_pieces (λ s. s) l v (dab_air l t) (dab_event l)
     carries = record {
@@ -185,56 +178,39 @@ module _ (check : List ℕ → ℕ) (small : (b : List ℕ) → check b < 65536)
         (omega arith, omega arith)
 
     sized : (n : ℕ) → Sized (framed_by check (dab_body l t n))
-    sized n =
-        ⊎_elim (λ (c : last < n). subst (λ b. Sized (framed_by check b)) (sym (body_command n c)) sized_command)
-        (λ (c : n ≤ last). subst (λ b. Sized (framed_by check b)) (sym (body_text n c)) (sized_text n c)) (cases_lt last n)
+    sized n = by_number l t (new_taken dab_pieces) n (λ b _. Sized (framed_by check b)) (sized_text n) (λ _. sized_command)
 
-  module _ (s : State) where
-    segment_still : (a : ℕ) (d : List ℕ) (r : Result ℕ Refusal) → Still s (on_segment s a d r)
-    segment_still a d (Ok n) = still_text dab_pieces s _ _
-    segment_still a d (Err e) = still_refused s e
+  -- what holds of refusals, of passing over, and of the shared steps holds of a frame's step
+  module _ (s : State) (P : Outcome State → Type 0) (no : (e : Refusal) → P (refused e)) (past : P (answered PassedOver s))
+      (text : (g : Bool) (k : Numbered Flagged) → P (on_text dab_pieces s g k)) (marks : (g : Option Bool) (w : Tags) → P (on_tags dab_pieces s g w)) where
+    either : (b : Bool) (o p : Outcome State) → P o → P p → P (cond b o p)
+    either b o p x y = cond_both b o p P (λ _. x) (λ _. y)
 
-    text_still : (a b : ℕ) (d : List ℕ) → Still s (take_text s a b d)
-    text_still a b d = still_cond s (not (low_four a + 1 == length d)) _ _ (still_refused s WrongLength) (segment_still a d (segment_number a b))
+    of_segment : (a : ℕ) (d : List ℕ) (r : Result ℕ Refusal) → P (on_segment s a d r)
+    of_segment a d (Ok n) = text _ _
+    of_segment a d (Err e) = no e
 
-    command_still : (a b : ℕ) (d : List ℕ) → Still s (take_command s a b d)
-    command_still a b d =
-        still_cond s (not (low_four b + 1 == length d)) _ _ (still_refused s WrongLength)
-        (still_cond s (not (high_four (slice_index d 0) == 0)) _ _ (still_same s PassedOver)
-        (still_cond s (not (whole_command a (slice_index d 0) (length d))) _ _ (still_refused s WrongCommand) (still_tags dab_pieces s _ _)))
+    of_text : (a b : ℕ) (d : List ℕ) → P (take_text s a b d)
+    of_text a b d = either _ _ _ (no WrongLength) (of_segment a d (segment_number a b))
 
-    body_still : (a b : ℕ) (d : List ℕ) → Still s (take_body s a b d)
-    body_still a b d =
-        still_cond s (not (command_bit a)) _ _ (text_still a b d) (still_cond s (low_four a == 2) _ _ (command_still a b d) (still_same s PassedOver))
+    of_command : (a b : ℕ) (d : List ℕ) → P (take_command s a b d)
+    of_command a b d = either _ _ _ (no WrongLength) (either _ _ _ past (either _ _ _ (no WrongCommand) (marks _ _)))
 
-    step_still : (f : List ℕ) → Still s (step_by check s f)
+    of_body : (a b : ℕ) (d : List ℕ) → P (take_body s a b d)
+    of_body a b d = either _ _ _ (of_text a b d) (either _ _ _ (of_command a b d) past)
+
+    of_step : (f : List ℕ) → P (step_by check s f)
     unfolding step_by
-    step_still f =
-        still_cond s (not (right_size (length f))) _ _ (still_refused s WrongSize)
-        (still_cond s (not (check (checked_part f) == check_part f)) _ _ (still_refused s WrongCheck) (body_still (slice_index f 0) (slice_index f 1) (data_part f)))
+    of_step f = either _ _ _ (no WrongSize) (either _ _ _ (no WrongCheck) (of_body (slice_index f 0) (slice_index f 1) (data_part f)))
 
-    segment_tells : (a : ℕ) (d : List ℕ) (r : Result ℕ Refusal) → Tells (on_segment s a d r)
-    segment_tells a d (Ok n) = tells_text dab_pieces s _ _
-    segment_tells a d (Err e) = tells_refused e
+  step_still : (s : State) (f : List ℕ) → Still s (step_by check s f)
+  step_still s = of_step s (Still s) (still_refused s) (still_same s PassedOver) (still_text dab_pieces s) (still_tags dab_pieces s)
 
-    text_tells : (a b : ℕ) (d : List ℕ) → Tells (take_text s a b d)
-    text_tells a b d = tells_cond (not (low_four a + 1 == length d)) _ _ (tells_refused WrongLength) (segment_tells a d (segment_number a b))
+  abbrev told : State → Option Label
+  told u = u.told
 
-    command_tells : (a b : ℕ) (d : List ℕ) → Tells (take_command s a b d)
-    command_tells a b d =
-        tells_cond (not (low_four b + 1 == length d)) _ _ (tells_refused WrongLength)
-        (tells_cond (not (high_four (slice_index d 0) == 0)) _ _ (tells_answer PassedOver s tt)
-        (tells_cond (not (whole_command a (slice_index d 0) (length d))) _ _ (tells_refused WrongCommand) (tells_tags dab_pieces s _ _)))
-
-    body_tells : (a b : ℕ) (d : List ℕ) → Tells (take_body s a b d)
-    body_tells a b d =
-        tells_cond (not (command_bit a)) _ _ (text_tells a b d) (tells_cond (low_four a == 2) _ _ (command_tells a b d) (tells_answer PassedOver s tt))
-
-    step_tells : (f : List ℕ) → Tells (step_by check s f)
-    unfolding step_by
-    step_tells f =
-        tells_cond (not (right_size (length f))) _ _ (tells_refused WrongSize)
-        (tells_cond (not (check (checked_part f) == check_part f)) _ _ (tells_refused WrongCheck) (body_tells (slice_index f 0) (slice_index f 1) (data_part f)))
+  step_tells : (s : State) (f : List ℕ) → Tells told (step_by check s f)
+  step_tells s = of_step s (Tells told) (tells_refused told) (tells_other told PassedOver s passed) (tells_text dab_pieces s) (tells_tags dab_pieces s)
 
   lawful_by : Lawful (dab_by check)
   lawful_by = record {

@@ -9,4 +9,3 @@ pub mod Reopened
 pub mod Heard
 pub mod OwnText
 pub mod OnAir
-pub mod Telling

@@ -6,14 +6,14 @@ use crate::dab::Dab;
 use crate::open::open;
 use crate::text::last_segment;
 use crate::writing::lay;
+use carrier::airing::Airing;
 use carrier::answer::Answer;
 use carrier::carrier::Carrier;
-use carrier::writing::{PLACE, why_not_write};
+use carrier::told::Told;
+use carrier::writing::{PLACE, may_write};
 use label::draft;
 use label::refusal::Refusal;
 use label::sealed::Sealed;
-use label::tag::{ItemBits, Tag};
-use taking::pieces::Pieces;
 use taking::taken::Taking;
 
 impl Carrier for Dab {
@@ -33,27 +33,16 @@ impl Carrier for Dab {
         last_segment(label.len()) + 2
     }
 
-    fn write(
-        label: &Sealed,
-        item: ItemBits,
-        text: &[u8],
-        toggle: bool,
-        _service: u16,
-        number: usize,
-        space: &mut [u8],
-    ) -> Result<(), Refusal> {
-        if let Some(refusal) = why_not_write(
+    fn write(airing: &Airing<'_>, number: usize, space: &mut [u8]) -> Result<(), Refusal> {
+        let label = airing.label;
+        may_write(
             Self::fits(label),
             Self::count(label),
-            label,
-            text,
+            airing,
             number,
             space.len(),
-        ) {
-            return Err(refusal);
-        }
-        let place = lay(label, item, text, toggle, number);
-        space[0..PLACE].copy_from_slice(&place);
+        )?;
+        space[..PLACE].copy_from_slice(&lay(airing, number));
         Ok(())
     }
 
@@ -72,19 +61,7 @@ impl Carrier for Dab {
         self.taking.standing()
     }
 
-    fn is_complete(&self) -> bool {
-        self.taking.is_complete()
-    }
-
-    fn text(&self) -> &[u8] {
-        self.taking.text()
-    }
-
-    fn tags(&self) -> &[Tag] {
-        self.taking.tags()
-    }
-
-    fn item(&self) -> ItemBits {
-        self.taking.item()
+    fn told(&self) -> Option<&Told> {
+        self.taking.told()
     }
 }

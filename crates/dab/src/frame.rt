@@ -1,49 +1,20 @@
-ghost use Rattle.std.specs.Prelude.{◌≡◌, ◌-◌, ◌≤◌, ◌∷◌, ◌++◌, length, replicate};
-ghost use Rattle.carrier.specs.Fields.{octets};
-ghost use Rattle.carrier.specs.Writing.{place};
+ghost use Rattle.std.specs.Prelude.{◌≡◌, ◌∷◌};
 ghost use Rattle.dab.specs.Frames.{framed};
 
+use crate::load::Load;
+use crate::prefix::Prefix;
+use arrayvec::ArrayVec;
 use crc::check;
 
-// Prefix and data with a check behind them, in their place.
-fn closed(body: &[u8], check: u16) -> [u8; 21]
-    requires { length body.now ≤ 18 }
-    ensures { result ≡ place (body.now ++ octets 2 check) }
+// A frame: prefix and data, and their check behind them.
+pub(crate) fn frame(prefix: Prefix, load: &Load<'_>) -> ArrayVec<u8, 20>
+    ensures { result.items ≡ framed (prefix.first ∷ prefix.second ∷ load.now.bytes.now) }
 {
-    let n = body.len();
-    let mut place = [0; 21];
-    place[0] = n as u8 + 2;
-    place[1..n + 1].copy_from_slice(body);
-    place[n + 1] = (check / 256) as u8;
-    place[n + 2] = (check % 256) as u8;
-    place
-}
-
-// Prefix and data with their check, in their place.
-fn checked(body: &[u8]) -> [u8; 21]
-    requires { length body.now ≤ 18 }
-    ensures { result ≡ place (framed body.now) }
-{
-    closed(body, check(body))
-}
-
-// Prefix and data, with zeros behind them.
-fn body(first: u8, second: u8, bytes: &[u8]) -> [u8; 18]
-    requires { length bytes.now ≤ 16 }
-    ensures { result ≡ first ∷ second ∷ (bytes.now ++ replicate (16 - length bytes.now) 0) }
-{
-    let mut body = [0; 18];
-    body[0] = first;
-    body[1] = second;
-    body[2..bytes.len() + 2].copy_from_slice(bytes);
-    body
-}
-
-// A frame in its place, by its prefix and its data.
-pub(crate) fn frame(first: u8, second: u8, bytes: &[u8]) -> [u8; 21]
-    requires { length bytes.now ≤ 16 }
-    ensures { result ≡ place (framed (first ∷ second ∷ bytes.now)) }
-{
-    let body = body(first, second, bytes);
-    checked(&body[0..bytes.len() + 2])
+    let mut frame = ArrayVec::new();
+    frame.push(prefix.first);
+    frame.push(prefix.second);
+    frame.try_extend_from_slice(load.bytes).unwrap();
+    let check = check(&frame).to_be_bytes();
+    frame.try_extend_from_slice(&check).unwrap();
+    frame
 }

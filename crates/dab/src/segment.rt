@@ -1,43 +1,51 @@
-ghost use Rattle.std.specs.Prelude.{◌≡◌, ◌≤◌, length};
-ghost use Rattle.std.specs.Str.{bytes_eq};
-ghost use Rattle.dab.specs.Text.{same_segment};
+ghost use Rattle.std.specs.Prelude.{refl};
+ghost use Rattle.std.proofs.Common.{rules};
+ghost use Rattle.dab.specs.Text.{Flagged, dab_segments};
 ghost use Rattle.dab.specs.Held.{flagged};
 
-use crate::held::Segment;
+use arrayvec::ArrayVec;
+use taking::look::Look;
+use taking::segment::Segment;
 
-fn are_same(a: &[u8], b: &[u8]) -> bool
-    ensures { result ≡ bytes_eq a.now b.now }
-{
-    a == b
+// A text segment as it arrives: its data bytes, and whether it is the last.
+#[derive(PartialEq, Eq, Drop)]
+pub struct DabSegment {
+    pub(crate) data: ArrayVec<u8, 16>,
+    pub(crate) last: bool,
 }
 
-impl Segment {
-    // A segment of these data.
-    pub(crate) fn new(part: &[u8], last: bool) -> Segment
-        requires { length part.now ≤ 16 }
-        ensures { flagged result ≡ record { body = part.now; last = last } }
-    {
-        let mut bytes = [0; 16];
-        bytes[0..part.len()].copy_from_slice(part);
-        Segment {
-            bytes,
-            len: part.len(),
-            last,
-        }
+impl Segment<8> for DabSegment {
+    ghost Meant = { Flagged };
+
+    ghost meant = { flagged };
+
+    ghost segments = { dab_segments };
+
+    ghost counts = { refl };
+
+    ghost some = { Prim.search rules };
+
+    fn past() -> Look {
+        Look::Unlike
     }
 
-    // Its data bytes.
-    pub(crate) fn data(&self) -> &[u8]
-        ensures value { result.now ≡ (flagged self.now).body }
-        ensures len { length result.now ≡ self.now.len }
-    {
-        &self.bytes[0..self.len]
+    fn shuts() -> bool {
+        true
     }
 
-    // The same data bytes and the same flag.
-    pub(crate) fn is_same(&self, other: &Segment) -> bool
-        ensures { result ≡ same_segment (flagged self.now) (flagged other.now) }
-    {
-        are_same(self.data(), other.data()) && self.last == other.last
+    fn ends_behind_all() -> bool {
+        false
+    }
+
+    fn ends(&self) -> bool {
+        self.last
+    }
+
+    fn is_same(&self, other: &Self) -> bool {
+        self == other
+    }
+
+    fn part(&self) -> &[u8] {
+        self.data.as_slice()
     }
 }

@@ -1,9 +1,10 @@
 ghost use Rattle.std.specs.Prelude.{◌≡◌, ◌≤◌, length};
-ghost use Rattle.carrier.specs.Writing.{place};
 ghost use Rattle.dab.specs.Frames.{segment, last_segment, text_body, framed};
 
 use crate::frame::frame;
-use crate::prefix::{text_first, text_second};
+use crate::load::Load;
+use crate::prefix::Prefix;
+use arrayvec::ArrayVec;
 
 // The bytes of a segment; the last one holds the rest.
 const SEGMENT: usize = 16;
@@ -15,27 +16,39 @@ pub(crate) fn last_segment(len: usize) -> usize
     len.saturating_sub(1) / SEGMENT
 }
 
-// A segment of a text.
-fn segment(text: &[u8], number: usize) -> &[u8]
-    requires some { 1 ≤ length text.now }
-    requires within { number ≤ last_segment (length text.now) }
-    ensures value { result.now ≡ segment text.now number }
-    ensures some { 1 ≤ length result.now }
-    ensures short { length result.now ≤ 16 }
-{
-    let start = SEGMENT * number;
-    let end = text.len().min(start + SEGMENT);
-    &text[start..end]
+// A text that goes out in segments.
+#[derive(Clone, Copy)]
+pub(crate) struct Text<'a> {
+    pub(crate) bytes: &'a [u8],
+    ghost some: { 1 ≤ length bytes.now },
+    ghost short: { length bytes.now ≤ 128 },
 }
 
-// The frame of a text's segment, in its place.
-pub(crate) fn text_frame(text: &[u8], toggle: bool, number: usize) -> [u8; 21]
-    requires some { 1 ≤ length text.now }
-    requires short { length text.now ≤ 128 }
-    requires within { number ≤ last_segment (length text.now) }
-    ensures { result ≡ place (framed (text_body text.now toggle number)) }
-{
-    let segment = segment(text, number);
-    let first = text_first(toggle, number, last_segment(text.len()), segment.len());
-    frame(first, text_second(number), segment)
+impl<'a> Text<'a> {
+    // The number of its last segment.
+    pub(crate) fn last(&self) -> usize
+        ensures { result ≡ last_segment (length self.now.bytes.now) }
+    {
+        last_segment(self.bytes.len())
+    }
+
+    fn segment(&self, number: usize) -> Load<'a>
+        requires { number ≤ last_segment (length self.now.bytes.now) }
+        ensures { result.bytes.now ≡ segment self.now.bytes.now number }
+    {
+        let start = SEGMENT * number;
+        let end = self.bytes.len().min(start + SEGMENT);
+        Load {
+            bytes: &self.bytes[start..end],
+        }
+    }
+
+    // The frame of a segment.
+    pub(crate) fn frame(&self, toggle: bool, number: usize) -> ArrayVec<u8, 20>
+        requires { number ≤ last_segment (length self.now.bytes.now) }
+        ensures { result.items ≡ framed (text_body self.now.bytes.now toggle number) }
+    {
+        let load = self.segment(number);
+        frame(Prefix::of_text(toggle, number, self.last(), &load), &load)
+    }
 }

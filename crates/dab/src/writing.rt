@@ -1,30 +1,35 @@
 ghost use Rattle.std.specs.Prelude.{◌≡◌, true};
-ghost use Rattle.label.specs.Drafts.{sealed_outline, matches};
-ghost use Rattle.label.specs.Label.{label_of};
+ghost use Rattle.label.specs.Drafts.{matches};
+ghost use Rattle.carrier.specs.Aired.{frame_of, outline};
 ghost use Rattle.carrier.specs.Writing.{place};
-ghost use Rattle.dab.specs.Frames.{dab_frame, dab_writing};
+ghost use Rattle.dab.specs.Frames.{dab_writing};
 
 use crate::command::command_frame;
-use crate::text::{last_segment, text_frame};
+use crate::text::Text;
+use arrayvec::ArrayVec;
+use carrier::airing::Airing;
+use carrier::writing::{PLACE, in_place};
 use label::draft;
-use label::sealed::Sealed;
-use label::tag::ItemBits;
 
-// A label's frame in its place: the text's segments, then the command.
-pub(crate) fn lay(
-    label: &Sealed,
-    item: ItemBits,
-    text: &[u8],
-    toggle: bool,
-    number: usize,
-) -> [u8; 21]
-    requires fits { dab_writing.fits (sealed_outline label.now) ≡ true }
-    requires own { matches (sealed_outline label.now) text.now ≡ true }
-    ensures { result ≡ place (dab_frame (label_of (sealed_outline label.now) item text.now) toggle 0 number) }
+// A label's frame: the text's segments, then the command.
+fn airing_frame(airing: &Airing<'_>, number: usize) -> ArrayVec<u8, 20>
+    requires fits { dab_writing.fits (outline airing.now) ≡ true }
+    requires own { matches (outline airing.now) airing.now.text.now ≡ true }
+    ensures { result.items ≡ frame_of dab_writing airing.now number }
 {
-    if number <= last_segment(text.len()) {
-        text_frame(text, toggle, number)
+    let text = Text { bytes: airing.text };
+    if number <= text.last() {
+        text.frame(airing.toggle, number)
     } else {
-        command_frame(item, label.tags(), toggle)
+        command_frame(airing.item, airing.label.tags(), airing.toggle)
     }
+}
+
+// The frame in its place.
+pub(crate) fn lay(airing: &Airing<'_>, number: usize) -> [u8; PLACE]
+    requires fits { dab_writing.fits (outline airing.now) ≡ true }
+    requires own { matches (outline airing.now) airing.now.text.now ≡ true }
+    ensures { result ≡ place (frame_of dab_writing airing.now number) }
+{
+    in_place(&airing_frame(airing, number))
 }

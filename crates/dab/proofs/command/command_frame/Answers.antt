@@ -1,7 +1,13 @@
-use Rattle.std.proofs.Common.{ap, ◌∙◌}
-use Rattle.carrier.specs.Writing.{place}
-use Rattle.dab.specs.Frames.{command_body, framed}
+use Rattle.dab.specs.Frames.{command_body}
 use Rattle.dab.proofs.command.command_frame.Goals as goal
 
 pub returns : goal.returns
-returns c = c.command_for.ensures ∙ ap (λ ts. place (framed (command_body c.args.item ts c.args.toggle))) c.sent_tags.ensures
+unfolding command_body
+returns c =
+    let t = c.of.ensures in
+    let b = c.data-bytes.ensures in
+    let d = c.deref.ensures in
+    let p = c.of_command.ensures.first in
+    let q = c.of_command.ensures.second in
+    let f = c.frame.ensures in
+    cc

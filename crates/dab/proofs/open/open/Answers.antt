@@ -1,14 +1,24 @@
-use Rattle.std.proofs.Common.{sym, refl, ◌∙◌}
-use Rattle.std.proofs.lemmas.List.{take_rest}
-use Rattle.crc.specs.Check.{check_of}
-use Rattle.dab.specs.Reopened.{wrong_size, wrong_check, opens}
+use Rattle.std.proofs.Common.{◌≡◌, ◌-◌, length, sym, ◌∙◌, arith}
+use Rattle.dab.specs.Taking.{step_by}
 use Rattle.dab.proofs.open.open.Goals as goal
 
 pub returns-then-not-is_right_size : goal.returns-then-not-is_right_size
-returns-then-not-is_right_size c s = wrong_size check_of s c.args.frame.now (sym c.is_right_size.ensures ∙ c.if-not-is_right_size.true)
+unfolding step_by
+returns-then-not-is_right_size c s =
+    let r = sym c.is_right_size.ensures ∙ c.if-not-is_right_size.true in
+    rw r
 
 pub returns-then-not-is_checked : goal.returns-then-not-is_checked
-returns-then-not-is_checked c s = wrong_check check_of s c.args.frame.now (sym c.is_right_size.ensures ∙ c.if-not-is_right_size.false) _ (take_rest c.args.frame.now 2) _ refl (sym c.is_checked.ensures ∙ c.if-not-is_checked.true)
+unfolding step_by
+returns-then-not-is_checked c s =
+    let r = sym c.is_right_size.ensures ∙ c.if-not-is_right_size.false in
+    let k = sym c.is_checked.ensures ∙ c.if-not-is_checked.true in
+    rw (r, k)
 
 pub returns : goal.returns
-returns c s = opens check_of s c.args.frame.now (sym c.is_right_size.ensures ∙ c.if-not-is_right_size.false) _ (take_rest c.args.frame.now 2) _ refl (sym c.is_checked.ensures ∙ c.if-not-is_checked.false)
+unfolding step_by
+returns c s =
+    let r = sym c.is_right_size.ensures ∙ c.if-not-is_right_size.false in
+    let k = sym c.is_checked.ensures ∙ c.if-not-is_checked.false in
+    let n : length c.args.frame.now - 2 - 2 ≡ length c.args.frame.now - 4 = omega arith in
+    rw (r, k, n)
