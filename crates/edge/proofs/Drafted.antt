@@ -20,7 +20,7 @@ by_extent extent = grind (arith, nat_tests)
 
 -- two tags are answered as the first one is where that is refused
 refused : (x y : Option Refusal) (e : Refusal) → Reply x (Err e) → Reply (or_else x y) (Err e)
-refused None y e r = absurd (let z : ◌≡◌ {A = ℕ} 0 1 = cc in omega arith)
+refused None y e r = cc
 refused (Some x) y e r = r
 
 pub first : (t u : Tag) (o : Outline) (e : Refusal) → o ≡ opened sill → Reply (tagging_refusal o t) (Err e) → Reply (two_tags t u) (Err e)
@@ -30,7 +30,7 @@ first t u o e h r = refused _ _ e (subst (λ o. Reply (tagging_refusal o t) (Err
 -- and as the second one is once the first came in
 came_in : (x : Option Refusal) (o p q : Outline) (f : Outline → Option Refusal) → Reply x (Ok tt) → p ≡ left x q o → f p ≡ or_else x (f q)
 came_in None o p q f r e = ap f e
-came_in (Some x) o p q f r e = absurd (let z : ◌≡◌ {A = ℕ} 0 1 = cc in omega arith)
+came_in (Some x) o p q f r e = cc
 
 pub second : (t u : Tag) (o p : Outline) → o ≡ opened sill → Reply (tagging_refusal o t) (Ok tt) → p ≡ left (tagging_refusal o t) (tagged o t) o → tagging_refusal p u ≡ two_tags t u
 unfolding two_tags

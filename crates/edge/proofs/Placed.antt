@@ -1,45 +1,22 @@
--- A frame of the sill's label in its place, and the row of the table that it is.
-use Rattle.std.proofs.Common.{◌≡◌, ℕ, zero, suc, ◌<◌, Bool, true, false, cond, leb, List, [], ◌++◌, get_or, Some, None, Ok, Err, Option, Result, refl, ap, ◌∙◌, arith, leb-false}
-use mathlib.Core.Bool.{xor}
+-- A frame of a label in its place, and the row of the table that the sill's label has there.
+use Rattle.std.proofs.Common.{◌≡◌, ℕ, false, List, [], ◌++◌, Some, None, Ok, Option, Result, ap, ◌∙◌}
 use Rattle.std.proofs.lemmas.List.{append-nil}
 use Rattle.label.specs.declared.refusal.Refusal.{Refusal}
-use Rattle.label.specs.declared.refusal.Refusal.TheVariants.{NoSuchFrame}
+use Rattle.label.specs.declared.tag.ItemBits.{ItemBits}
 use Rattle.label.specs.Drafts.{done, left}
-use Rattle.carrier.specs.Writing.{place}
-use Rattle.fm.specs.Frames.{fm_frame, fm_writing}
-use Rattle.dab.specs.Frames.{text_body, command_body, dab_writing}
-use Rattle.edge.specs.Frames.{service, sill_on_fm, sill_on_dab, written, in_row}
-use Rattle.edge.specs.Labels.{sill, sill_outline, sill_label}
+use Rattle.label.specs.Label.{Outline, label_of}
+use Rattle.carrier.specs.Writing.{Writing, place, write_refusal}
+use Rattle.edge.specs.Frames.{service, written, in_row}
+use Rattle.edge.specs.Labels.{sill, sill_outline}
 
 -- what a frame leaves in a space that is its place and no more
 pub laid : (x : Option Refusal) (new old out : List ℕ) → ◌≡◌ {A = Result (Unit {0}) Refusal} (done x tt) (Ok tt) → out ≡ left x (new ++ []) old → ◌≡◌ {A = Result (List ℕ) Refusal} (Ok out) (done x new)
 laid None new old out r e = ap Ok (e ∙ append-nil new)
-laid (Some x) new old out r e = absurd (let z : ◌≡◌ {A = ℕ} 0 1 = cc in omega arith)
+laid (Some x) new old out r e = cc
 
--- a row that is the frame wherever there is one
-agreeing : (b : Bool) (x y : List ℕ) → (b ≡ false → x ≡ y) → done (cond b (Some NoSuchFrame) None) x ≡ cond b (Err NoSuchFrame) (Ok y)
-agreeing true x y h = refl
-agreeing false x y h = ap Ok (h refl)
-
-fm_row : (n : ℕ) → n < 5 → fm_frame sill_label false service n ≡ get_or sill_on_fm n []
-unfolding fm_frame
-fm_row zero h = refl
-fm_row (suc zero) h = refl
-fm_row (suc (suc zero)) h = refl
-fm_row (suc (suc (suc zero))) h = refl
-fm_row (suc (suc (suc (suc zero)))) h = refl
-fm_row (suc (suc (suc (suc (suc n))))) h = absurd (omega arith)
-
-dab_row : (n : ℕ) → n < 2 → dab_writing.frame sill_label false service n ≡ get_or sill_on_dab n []
-unfolding text_body command_body xor
-dab_row zero h = refl
-dab_row (suc zero) h = refl
-dab_row (suc (suc n)) h = absurd (omega arith)
-
-pub on_fm : (n : ℕ) → written fm_writing sill_outline sill false service n ≡ in_row sill_on_fm n
+-- the sill's label, sealed and outside any item, is the label of the table
+pub in_its_row : (w : Writing) (rows : List (List ℕ)) (n : ℕ) (o : Outline) (item : ItemBits) → o ≡ sill_outline → item.toggle ≡ false → item.running ≡ false
+    → written w sill_outline sill false service n ≡ in_row rows n
+    → done (write_refusal w o sill n 21) (place (w.frame (label_of o item sill) false service n)) ≡ in_row rows n
 unfolding written
-on_fm n = agreeing (leb 5 n) _ _ (λ h. ap place (fm_row n (leb-false 5 n h)))
-
-pub on_dab : (n : ℕ) → written dab_writing sill_outline sill false service n ≡ in_row sill_on_dab n
-unfolding written
-on_dab n = agreeing (leb 2 n) _ _ (λ h. ap place (dab_row n (leb-false 2 n h)))
+in_its_row w rows n o item p q r row = rw (p, q, r) row

@@ -11,7 +11,7 @@ use Rattle.edge.specs.Frames.{SongOnBoth, SillOnFm, SillOnDab, SixteenOfText, To
 use Rattle.edge.specs.Holding.{SpaceInHotline, OfNextItem, ArtistAlone, NextItem}
 use Rattle.edge.specs.Worked.{WorkedLabels}
 use Rattle.edge.proofs.Drafted.{by_start, by_extent}
-use Rattle.edge.proofs.Placed.{on_fm, on_dab}
+use Rattle.edge.specs.Laws.{on_fm, on_dab}
 
 song_on_both : SongOnBoth
 song_on_both = record { long = refl; opens = refl; tags = refl; title = refl; artist = refl; fits_fm = refl; fits_dab = refl; frames_fm = refl; frames_dab = refl }

@@ -3,3 +3,4 @@ pub mod Drafting
 pub mod Frames
 pub mod Holding
 pub mod Worked
+pub mod Laws

@@ -1,14 +1,15 @@
 ghost use Rattle.std.specs.Prelude.{◌≡◌};
-ghost use Rattle.label.specs.Drafts.{sealed_outline};
+ghost use Rattle.label.specs.Drafts.{done};
+ghost use Rattle.carrier.specs.Aired.{airing_refusal, frame_of};
+ghost use Rattle.carrier.specs.Writing.{place};
 ghost use Rattle.edge.specs.Drafting.{SealedAs};
-ghost use Rattle.edge.specs.Frames.{sill_on_fm, sill_on_dab, written, in_row};
+ghost use Rattle.edge.specs.Frames.{in_row};
 ghost use Rattle.edge.specs.Labels.{sill_outline};
 
-use crate::table::worked_labels;
+use crate::table::Worked;
+use carrier::airing::Airing;
 use carrier::carrier::Carrier;
 use carrier::writing::PLACE;
-use dab::dab::Dab;
-use fm::fm::Fm;
 use label::draft;
 use label::refusal::Refusal;
 use label::sealed::{Draft, Sealed};
@@ -29,37 +30,25 @@ pub fn sealed() -> Result<Sealed, Refusal>
     Ok(draft.seal())
 }
 
-// One frame of a label outside any item, in a place of its own.
-fn in_new_place<C: Carrier>(
-    label: &Sealed,
-    text: &[u8],
-    toggle: bool,
-    service: u16,
-    number: usize,
-) -> Result<[u8; 21], Refusal>
-    ensures { result ≡ written C.meaning.writing (sealed_outline label.now) text.now toggle service number }
+// One frame of a label, in a place of its own.
+fn in_new_place<C: Carrier>(airing: &Airing<'_>, number: usize) -> Result<[u8; PLACE], Refusal>
+    ensures { result ≡ done (airing_refusal C.meaning.writing airing.now number 21) (place (frame_of C.meaning.writing airing.now number)) }
 {
     let mut place = [0; PLACE];
-    let item = ItemBits {
-        toggle: false,
-        running: false,
-    };
-    C::write(label, item, text, toggle, service, number, &mut place)?;
+    C::write(airing, number, &mut place)?;
     Ok(place)
 }
 
-// A frame of the sill's label on FM: the table's row of that number.
-pub fn frame_on_fm(number: usize) -> Result<[u8; 21], Refusal>
-    ensures { result ≡ in_row sill_on_fm number }
+// A frame of the sill's label outside any item: the carrier's row of that number, on DAB its check included.
+pub fn frame<W: Worked>(number: usize) -> Result<[u8; PLACE], Refusal>
+    ensures { result ≡ in_row W.rows number }
 {
-    worked_labels();
-    in_new_place::<Fm>(&sealed()?, SILL, false, 0x1234, number)
-}
-
-// A frame of it on DAB, its check included.
-pub fn frame_on_dab(number: usize) -> Result<[u8; 21], Refusal>
-    ensures { result ≡ in_row sill_on_dab number }
-{
-    worked_labels();
-    in_new_place::<Dab>(&sealed()?, SILL, false, 0x1234, number)
+    let airing = Airing {
+        label: &sealed()?,
+        text: SILL,
+        item: ItemBits::default(),
+        toggle: false,
+        service: 0x1234,
+    };
+    in_new_place::<W>(&airing, number)
 }

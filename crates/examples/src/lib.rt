@@ -10,4 +10,6 @@ mod harbour;
 #[cfg(test)]
 mod hearing;
 #[cfg(test)]
+mod labels;
+#[cfg(test)]
 mod shown;
