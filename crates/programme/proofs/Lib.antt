@@ -1,3 +1,4 @@
+mod Fronts
 mod Marked
 mod Numbers
 mod Scans

@@ -2,10 +2,11 @@
 ghost use Rattle.std.specs.Prelude.{◌≡◌, ◌-◌, true, cond, ◌++◌, IfSome, ◌==◌, slice_index_or};
 ghost use Rattle.std.specs.Option.{option_map};
 ghost use Rattle.programme.specs.Numerals.{all_digits, numeral};
-ghost use Rattle.programme.specs.Depth.{is_mark, number_of, parts_of, tenths_of, shallow, judged, depth_of};
+ghost use Rattle.programme.specs.Depth.{number_of, parts_of, tenths_of, shallow, judged, depth_of};
 
-use crate::digits::{digits, up_to_100};
+use crate::digits::{all_digits, up_to_100};
 use crate::fault::Fault;
+use crate::rows::split_while;
 
 // A decimal number: the digits before and behind its mark.
 #[derive(Clone, Copy)]
@@ -14,42 +15,29 @@ struct Number<'a> {
     fraction: &'a [u8],
 }
 
-fn is_mark(b: u8) -> bool
-    ensures { result ≡ is_mark b }
-{
-    b == b'.' || b == b','
-}
-
 fn split_number(s: &[u8]) -> Option<Number<'_>>
     ensures value { option_map parts_of result ≡ number_of s.now }
     ensures digits { IfSome result (λ n. all_digits n.fraction.now ≡ true) }
 {
-    let n = digits(s);
-    if n == 0 {
+    let (whole, behind) = split_while(s, |b| b.is_ascii_digit());
+    if whole.is_empty() {
         return None;
     }
-    let whole = &s[0..n];
-    if n == s.len() {
-        return Some(Number {
-            whole,
-            fraction: &s[n..],
-        });
+    match behind {
+        [] => Some(Number { whole, fraction: behind }),
+        [b'.' | b',', fraction @ ..] if all_digits(fraction) => Some(Number { whole, fraction }),
+        _ => None,
     }
-    let fraction = &s[n + 1..];
-    if is_mark(s[n]) && digits(fraction) == fraction.len() {
-        return Some(Number { whole, fraction });
-    }
-    None
 }
 
 // The first digit behind the mark: what is behind it is cut.
 fn tenth(fraction: &[u8]) -> u16
     ensures { result ≡ slice_index_or fraction.now 0 48 - 48 }
 {
-    if fraction.len() == 0 {
-        return 0;
+    match fraction {
+        [first, ..] => u16::from(first.saturating_sub(b'0')),
+        [] => 0,
     }
-    fraction[0].saturating_sub(b'0') as u16
 }
 
 impl Number<'_> {
@@ -75,9 +63,7 @@ impl Number<'_> {
 fn judge(below: bool, s: &[u8]) -> Result<u16, Fault>
     ensures { result ≡ judged below (number_of s.now) }
 {
-    let Some(number) = split_number(s) else {
-        return Err(Fault::NoDepth);
-    };
+    let number = split_number(s).ok_or(Fault::NoDepth)?;
     if below && !number.is_zero() {
         return Err(Fault::BelowZero);
     }
