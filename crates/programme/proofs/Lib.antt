@@ -1,3 +1,4 @@
+mod Decimals
 mod Fronts
 mod Marked
 mod Numbers
