@@ -2,5 +2,4 @@ mod Decimals
 mod Fronts
 mod Marked
 mod Numbers
-mod Scans
-mod Values
+pub mod Values

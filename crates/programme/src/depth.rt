@@ -41,12 +41,14 @@ fn tenth(fraction: &[u8]) -> u16
 }
 
 impl Number<'_> {
+    #[tactic(auto, using(crate::proofs::Values::part_le, crate::proofs::Values::zero_numeral))]
     fn is_zero(self) -> bool
         ensures { result ≡ (numeral (self.entry.whole.now ++ self.entry.fraction.now) == 0) }
     {
         up_to_100(self.whole) == 0 && up_to_100(self.fraction) == 0
     }
 
+    #[tactic(auto, using(crate::proofs::Values::tenths_are, crate::proofs::Values::tenth_lt))]
     fn tenths(self) -> Result<u16, Fault>
         requires { all_digits self.fraction.now ≡ true }
         ensures { result ≡ shallow (tenths_of self.entry.whole.now self.entry.fraction.now) }
