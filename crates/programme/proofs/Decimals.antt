@@ -1,5 +1,5 @@
 -- A depth as it is printed.
-use Rattle.std.proofs.Common.{◌≡◌, ℕ, ◌+◌, ◌/◌, ◌%◌, ◌^◌, ◌<◌, ◌≤◌, Bool, true, false, cond, ltb, List, [], ◌∷◌, ◌++◌, ◌⊎◌, inl, inr, append_assoc, ap, ◌∙◌, arith}
+use Rattle.std.proofs.Common.{◌≡◌, ℕ, ◌+◌, ◌/◌, ◌%◌, ◌<◌, ◌≤◌, true, false, cond, ltb, List, [], ◌∷◌, ◌++◌, ◌⊎◌, inl, inr, append_assoc, ap, ◌∙◌, arith}
 use Rattle.std.specs.Fmt.{decimal}
 use Rattle.std.proofs.lemmas.Bool.{cases_lt, lt-ltb, le-ltb}
 use Rattle.std.proofs.lemmas.Fmt.{decimal_digit, decimal_step}
@@ -14,8 +14,8 @@ by_size t low (inr large) =
     let test : ltb t 100 ≡ false = le-ltb t 100 large in
     let tens : t / 10 / 10 ≡ t / 100 = omega arith in
     rw test (
-      decimal_step (t / 10) (omega arith) (omega arith)
-      ∙ ap (λ ds. ds ++ ((48 + t / 10 % 10) ∷ [])) (decimal_digit (t / 10 / 10) (omega arith) ∙ ap (λ n. (48 + n) ∷ []) tens)
+    decimal_step (t / 10) (omega arith) (omega arith)
+    ∙ ap (λ ds. ds ++ ((48 + t / 10 % 10) ∷ [])) (decimal_digit (t / 10 / 10) (omega arith) ∙ ap (λ n. (48 + n) ∷ []) tens)
     )
 
 -- what is printed of a depth is its digits

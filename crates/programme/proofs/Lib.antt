@@ -1,5 +1,4 @@
 mod Decimals
 mod Fronts
-mod Marked
-mod Numbers
+pub mod Marked
 pub mod Values

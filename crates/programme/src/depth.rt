@@ -24,7 +24,10 @@ fn split_number(s: &[u8]) -> Option<Number<'_>>
         return None;
     }
     match behind {
-        [] => Some(Number { whole, fraction: behind }),
+        [] => Some(Number {
+            whole,
+            fraction: behind,
+        }),
         [b'.' | b',', fraction @ ..] if all_digits(fraction) => Some(Number { whole, fraction }),
         _ => None,
     }

@@ -5,7 +5,9 @@ ghost use Rattle.programme.specs.Lines.{heard, separator_at, reading_of, gauge_o
 use crate::depth::read_depth;
 use crate::entry::Entry;
 use crate::fault::Fault;
-use crate::rows::{field_in, is_blank, split_outside_quotes, split_slash, split_while, trim, without_return};
+use crate::rows::{
+    field_in, is_blank, split_outside_quotes, split_slash, split_while, trim, without_return,
+};
 use crate::time::is_time;
 
 // The fields of the time and of the metres, parted by the first semicolon outside quotes, or else by the first comma.

@@ -19,9 +19,16 @@ const DEPTH: u8 = 56;
 fn song_text(heap: Global, title: &[u8], artist: &[u8]) -> Result<Vec<u8>, AllocError>
     ensures { IfOk result (λ v. v.items ≡ song_text title.now artist.now) }
 {
-    [b"You are listening to \"".as_slice(), title, b"\" by ", artist].concat(heap)
+    [
+        b"You are listening to \"".as_slice(),
+        title,
+        b"\" by ",
+        artist,
+    ]
+    .concat(heap)
 }
 
+#[tactic(auto, using(crate::proofs::Marked::song_marks))]
 fn song(heap: Global, title: &[u8], artist: &[u8]) -> Result<Composed, Fault>
     ensures label { Composes result (song_label title.now artist.now) }
     ensures marks { Marks result (title.now ∷ (artist.now ∷ [])) }

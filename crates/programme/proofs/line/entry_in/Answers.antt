@@ -1,5 +1,4 @@
-use Rattle.std.proofs.Common.{◌≡◌, false, eqb, length, sym, ◌∙◌, arith, rules, false-eqb}
-use Rattle.std.specs.List.{prefix_len}
+use Rattle.std.proofs.Common.{sym, ◌∙◌, arith, rules, false-eqb}
 use Rattle.std.proofs.lemmas.List.Sums.{prefix_len-le-length}
 use Rattle.programme.specs.Lines.{entry_of}
 use Rattle.programme.specs.Rows.{is_space}
