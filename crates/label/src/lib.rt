@@ -10,3 +10,4 @@ mod question;
 pub mod refusal;
 pub mod sealed;
 pub mod tag;
+mod words;
