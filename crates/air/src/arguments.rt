@@ -42,18 +42,18 @@ impl Error for Misuse {}
 
 // A carrier by its name.
 #[derive(Clone, Copy, Debug)]
-pub enum Named {
+pub enum CarrierName {
     Fm,
     Dab,
 }
 
-impl FromStr for Named {
+impl FromStr for CarrierName {
     type Err = Misuse;
 
-    fn from_str(word: &str) -> Result<Named, Misuse> {
+    fn from_str(word: &str) -> Result<CarrierName, Misuse> {
         match word {
-            "fm" => Ok(Named::Fm),
-            "dab" => Ok(Named::Dab),
+            "fm" => Ok(CarrierName::Fm),
+            "dab" => Ok(CarrierName::Dab),
             _ => Err(Misuse::Carrier),
         }
     }
@@ -63,7 +63,7 @@ impl FromStr for Named {
 #[derive(Clone, Copy, Debug)]
 pub enum Wanted {
     Help,
-    Air { carrier: Named, service: u16 },
+    Air { carrier: CarrierName, service: u16 },
 }
 
 fn service_number(word: &str) -> Result<u16, Misuse> {
@@ -82,7 +82,7 @@ impl TryFrom<&[String]> for Wanted {
             [word] if word.as_str() == "--help" => Ok(Wanted::Help),
             [carrier, service] => {
                 let service = service_number(service.as_str())?;
-                let carrier = carrier.as_str().parse::<Named>()?;
+                let carrier = carrier.as_str().parse::<CarrierName>()?;
                 Ok(Wanted::Air { carrier, service })
             }
             _ => Err(Misuse::Words),

@@ -7,7 +7,7 @@ mod readable;
 mod report;
 mod transmitter;
 
-use arguments::{HINT, Named, USAGE, Wanted};
+use arguments::{CarrierName, HINT, USAGE, Wanted};
 use carrier::carrier::Carrier;
 use dab::dab::Dab;
 use fm::fm::Fm;
@@ -35,8 +35,8 @@ fn serve(rt: &HostRuntime, wanted: Wanted) -> anyhow::Result<()> {
             Ok(())
         }
         Wanted::Air { carrier, service } => match carrier {
-            Named::Fm => run::<Fm>(rt, service, Form::Blocks),
-            Named::Dab => run::<Dab>(rt, service, Form::Row),
+            CarrierName::Fm => run::<Fm>(rt, service, Form::Blocks),
+            CarrierName::Dab => run::<Dab>(rt, service, Form::Row),
         },
     }
 }

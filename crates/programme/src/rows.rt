@@ -1,7 +1,7 @@
 // Parts of a row of bytes.
 ghost use Rattle.std.specs.Prelude.{◌≡◌, ℕ, ◌+◌, ◌<◌, Bool, true, false, length, take, drop, MatchOption};
 ghost use Rattle.std.specs.List.{prefix_len};
-ghost use Rattle.programme.specs.Rows.{trim_front, trim_end, trimmed, is_blank, without_return, unquoted, field, turned, outside, slash_first, slash_at};
+ghost use Rattle.programme.specs.Rows.{trim_front, trim_end, trimmed, is_blank, without_return, unquoted, field, outside, slash_first, slash_at};
 
 // The longest front of `s` whose bytes pass the test, and what stands behind it.
 pub(crate) fn split_while<F: Fn(u8) -> bool>(s: &[u8], passes: F) -> (&[u8], &[u8])
@@ -67,7 +67,7 @@ pub(crate) fn field_in(s: &[u8]) -> &[u8]
 
 // The parts before and behind the first `b` outside quotes.
 pub(crate) fn split_outside_quotes(s: &[u8], b: u8) -> Option<(&[u8], &[u8])>
-    ensures { MatchOption result (outside b false s.now ≡ length s.now) (λ p. (outside b false s.now < length s.now) × (p.0.now ≡ take (outside b false s.now) s.now) × (p.1.now ≡ drop (outside b false s.now + 1) s.now)) }
+    ensures { let n = outside b false s.now in MatchOption result (n ≡ length s.now) (λ p. (n < length s.now) × (p.0.now ≡ take n s.now) × (p.1.now ≡ drop (n + 1) s.now)) }
 {
     let mut quoted = false;
     for (at, x) in s.iter().enumerate() {
@@ -89,9 +89,9 @@ fn behind_slash(s: &[u8]) -> Option<&[u8]>
     }
 }
 
-// The parts before and behind the first slash between two spaces.
+// The parts before and behind the first slash between two spaces. A counted loop, because a cut takes its place.
 pub(crate) fn split_slash(s: &[u8]) -> Option<(&[u8], &[u8])>
-    ensures { MatchOption result (slash_at s.now ≡ length s.now) (λ p. (p.0.now ≡ take (slash_at s.now) s.now) × (p.1.now ≡ drop (slash_at s.now + 3) s.now)) }
+    ensures { let n = slash_at s.now in MatchOption result (n ≡ length s.now) (λ p. (p.0.now ≡ take n s.now) × (p.1.now ≡ drop (n + 3) s.now)) }
 {
     for at in 0..s.len() {
         if let Some(behind) = behind_slash(&s[at..]) {

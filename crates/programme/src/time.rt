@@ -21,8 +21,10 @@ fn is_past_hour(s: &[u8]) -> bool
     ensures { result ≡ is_past_hour s.now }
 {
     match s {
-        [m, n] => is_sixtieth(*m, *n),
-        [m, n, b':', s, t] => is_sixtieth(*m, *n) && is_sixtieth(*s, *t),
+        [tens, units] => is_sixtieth(*tens, *units),
+        [tens, units, b':', second_tens, second_units] => {
+            is_sixtieth(*tens, *units) && is_sixtieth(*second_tens, *second_units)
+        }
         _ => false,
     }
 }
