@@ -1,4 +1,6 @@
-use std::env;
+use std::error::Error;
+use std::fmt;
+use std::str::FromStr;
 
 pub const USAGE: &str = "usage: air CARRIER SERVICE < PROGRAMME
 
@@ -18,43 +20,72 @@ A programme has these lines:
 
 pub const HINT: &str = "air --help says how it is used";
 
-// A carrier with its service number.
-pub enum Arguments {
-    Fm(u16),
-    Dab(u16),
+// Why a command line asks for nothing.
+#[derive(Clone, Copy, Debug)]
+pub enum Misuse {
+    Words,
+    Service,
+    Carrier,
+}
+
+impl fmt::Display for Misuse {
+    fn fmt<W: fmt::Write>(&self, f: &mut fmt::Formatter<W>) -> fmt::Result {
+        f.write_str(match self {
+            Misuse::Words => "air: it takes a carrier and a service number",
+            Misuse::Service => "air: SERVICE is a number from 0 to 65535",
+            Misuse::Carrier => "air: CARRIER is fm or dab",
+        })
+    }
+}
+
+impl Error for Misuse {}
+
+// A carrier by its name.
+#[derive(Clone, Copy, Debug)]
+pub enum CarrierName {
+    Fm,
+    Dab,
+}
+
+impl FromStr for CarrierName {
+    type Err = Misuse;
+
+    fn from_str(word: &str) -> Result<CarrierName, Misuse> {
+        match word {
+            "fm" => Ok(CarrierName::Fm),
+            "dab" => Ok(CarrierName::Dab),
+            _ => Err(Misuse::Carrier),
+        }
+    }
 }
 
 // What the command line asks for.
+#[derive(Clone, Copy, Debug)]
 pub enum Wanted {
     Help,
-    Air(Arguments),
-    Wrong(&'static str),
+    Air { carrier: CarrierName, service: u16 },
 }
 
-fn service_number(word: &str) -> Option<u16> {
-    match word.strip_prefix("0x") {
-        Some(digits) => u16::from_str_radix(digits, 16).ok(),
-        None => word.parse::<u16>().ok(),
-    }
-}
-
-fn chosen(carrier: &str, service: &str) -> Wanted {
-    let Some(service) = service_number(service) else {
-        return Wanted::Wrong("air: SERVICE is a number from 0 to 65535");
+fn service_number(word: &str) -> Result<u16, Misuse> {
+    let number = match word.strip_prefix("0x") {
+        Some(digits) => u16::from_str_radix(digits, 16),
+        None => word.parse::<u16>(),
     };
-    match carrier {
-        "fm" => Wanted::Air(Arguments::Fm(service)),
-        "dab" => Wanted::Air(Arguments::Dab(service)),
-        _ => Wanted::Wrong("air: CARRIER is fm or dab"),
-    }
+    number.map_err(|_| Misuse::Service)
 }
 
-// Reads the command line.
-pub fn read(rt: &HostRuntime) -> anyhow::Result<Wanted> {
-    let words: Vec<String> = env::args(rt)?.skip(1).collect(rt.alloc())?;
-    match words.as_slice() {
-        [word] if word.as_str() == "--help" => Ok(Wanted::Help),
-        [carrier, service] => Ok(chosen(carrier.as_str(), service.as_str())),
-        _ => Ok(Wanted::Wrong("air: it takes a carrier and a service number")),
+impl TryFrom<&[String]> for Wanted {
+    type Error = Misuse;
+
+    fn try_from(words: &[String]) -> Result<Wanted, Misuse> {
+        match words {
+            [word] if word.as_str() == "--help" => Ok(Wanted::Help),
+            [carrier, service] => {
+                let service = service_number(service.as_str())?;
+                let carrier = carrier.as_str().parse::<CarrierName>()?;
+                Ok(Wanted::Air { carrier, service })
+            }
+            _ => Err(Misuse::Words),
+        }
     }
 }

@@ -2,13 +2,18 @@
 #![tactic(auto)]
 
 mod arguments;
+mod not_sent;
+mod readable;
+mod report;
 mod transmitter;
 
-use arguments::{Arguments, Wanted};
+use arguments::{CarrierName, HINT, USAGE, Wanted};
 use carrier::carrier::Carrier;
 use dab::dab::Dab;
 use fm::fm::Fm;
 use lines::form::Form;
+use report::Report;
+use std::env;
 use std::io::{BufRead, BufReader};
 use std::process::ExitCode;
 use transmitter::Transmitter;
@@ -16,24 +21,37 @@ use transmitter::Transmitter;
 // Puts every line of standard input on the air.
 fn run<C: Carrier>(rt: &HostRuntime, service: u16, form: Form) -> anyhow::Result<()> {
     let mut transmitter = Transmitter::new(service, form);
-    let mut number: u64 = 0;
-    for line in BufReader::new(rt.alloc(), rt.stdin())?.split(rt.alloc(), b'\n') {
-        number = number.saturating_add(1);
-        transmitter.air::<C>(rt, number, line?.as_slice())?;
+    let lines = BufReader::new(rt.alloc(), rt.stdin())?.split(rt.alloc(), b'\n');
+    for (number, line) in (1..=u64::MAX).zip(lines) {
+        transmitter.air::<C>(line?.as_slice(), &Report { rt, number })?;
     }
     Ok(())
 }
 
+fn serve(rt: &HostRuntime, wanted: Wanted) -> anyhow::Result<()> {
+    match wanted {
+        Wanted::Help => {
+            rt.print(USAGE)?;
+            Ok(())
+        }
+        Wanted::Air { carrier, service } => match carrier {
+            CarrierName::Fm => run::<Fm>(rt, service, Form::Blocks),
+            CarrierName::Dab => run::<Dab>(rt, service, Form::Row),
+        },
+    }
+}
+
 fn main(rt: HostRuntime) -> anyhow::Result<ExitCode> {
-    match arguments::read(&rt)? {
-        Wanted::Help => rt.print(arguments::USAGE)?,
-        Wanted::Air(Arguments::Fm(service)) => run::<Fm>(&rt, service, Form::Blocks)?,
-        Wanted::Air(Arguments::Dab(service)) => run::<Dab>(&rt, service, Form::Row)?,
-        Wanted::Wrong(message) => {
-            rt.eprintln(message)?;
-            rt.eprintln(arguments::HINT)?;
-            return Ok(ExitCode::FAILURE);
+    let words: Vec<String> = env::args(&rt)?.skip(1).collect(rt.alloc())?;
+    match Wanted::try_from(words.as_slice()) {
+        Ok(wanted) => {
+            serve(&rt, wanted)?;
+            Ok(ExitCode::SUCCESS)
+        }
+        Err(misuse) => {
+            rt.eprintln(misuse)?;
+            rt.eprintln(HINT)?;
+            Ok(ExitCode::FAILURE)
         }
     }
-    Ok(ExitCode::SUCCESS)
 }

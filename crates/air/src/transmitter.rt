@@ -1,19 +1,14 @@
+use crate::not_sent::NotSent;
+use crate::report::Report;
 use carrier::carrier::Carrier;
-use label::draft;
 use label::refusal::Refusal;
 use label::sealed::{Draft, Sealed};
 use label::tag::ItemBits;
-use lines::form::Form;
-use lines::reason::reason;
+use lines::form::{Form, Line};
 use programme::composed::Composed;
 use programme::line::read_line;
 use programme::text::compose;
-
-// Both item bits are 0: no item is told of yet.
-const NO_ITEM: ItemBits = ItemBits {
-    toggle: false,
-    running: false,
-};
+use std::alloc::Global;
 
 // What is on the air: the service, and the message toggle of the next label.
 #[derive(Drop)]
@@ -23,26 +18,38 @@ pub struct Transmitter {
     form: Form,
 }
 
+// A label that is ready to be sent, and what it was made of.
+#[derive(Drop)]
+struct Ready {
+    composed: Composed,
+    label: Sealed,
+}
+
 // A label with these tags, sealed.
 fn label_of(composed: &Composed) -> Result<Sealed, Refusal> {
     let mut draft = Draft::open(composed.text.as_slice())?;
     for tag in composed.tags.as_slice() {
         draft.tag(*tag)?;
     }
-    let sealed = draft.seal();
-    Ok(sealed)
+    Ok(draft.seal())
 }
 
-fn remark(rt: &HostRuntime, number: u64, message: &str) -> anyhow::Result<()> {
-    println!(rt; "# line {number}: {message}")?;
-    Ok(())
+// A line of the programme as a label that fits the carrier, where there is anything to send.
+fn prepared<C: Carrier>(heap: Global, line: &[u8]) -> Result<Option<Ready>, NotSent> {
+    let Some(composed) = compose(heap, read_line(line)?).transpose()? else {
+        return Ok(None);
+    };
+    let label = label_of(&composed)?;
+    if !C::fits(&label) {
+        return Err(NotSent::Refused(Refusal::LabelDoesNotFit));
+    }
+    Ok(Some(Ready { composed, label }))
 }
 
-fn refuse(rt: &HostRuntime, number: u64, refusal: Refusal) -> anyhow::Result<()> {
-    let why = refusal.number();
-    let words = reason(refusal);
-    println!(rt; "# line {number}: refused with {why}: {words}")?;
-    Ok(())
+// The frame in its place, behind its length.
+fn frame_in(place: &[u8]) -> Option<&[u8]> {
+    let (length, bytes) = place.split_first()?;
+    bytes.get(..usize::from(*length))
 }
 
 impl Transmitter {
@@ -55,112 +62,49 @@ impl Transmitter {
     }
 
     // Puts a line of the programme on the air.
-    pub fn air<C: Carrier>(
-        &mut self,
-        rt: &HostRuntime,
-        number: u64,
-        line: &[u8],
-    ) -> anyhow::Result<()> {
-        let heap = rt.alloc();
-        match read_line(line) {
-            Err(fault) => remark(rt, number, fault.message()),
-            Ok(entry) => match compose(heap, entry) {
-                None => Ok(()),
-                Some(Err(fault)) => remark(rt, number, fault.message()),
-                Some(Ok(composed)) => self.air_label::<C>(rt, number, &composed),
-            },
+    pub fn air<C: Carrier>(&mut self, line: &[u8], report: &Report) -> anyhow::Result<()> {
+        match prepared::<C>(report.rt.alloc(), line) {
+            Ok(Some(ready)) => self.send::<C>(&ready, report),
+            Ok(None) => Ok(()),
+            Err(why) => report.not_sent(why),
         }
     }
 
-    fn air_label<C: Carrier>(
-        &mut self,
-        rt: &HostRuntime,
-        number: u64,
-        composed: &Composed,
-    ) -> anyhow::Result<()> {
-        match label_of(composed) {
-            Err(refusal) => refuse(rt, number, refusal),
-            Ok(label) => {
-                if !C::fits(&label) {
-                    return refuse(rt, number, Refusal::LabelDoesNotFit);
-                }
-                self.announce(rt, number, composed, C::count(&label))?;
-                self.write_frames::<C>(rt, &label, composed.text.as_slice())?;
-                self.toggle = !self.toggle;
-                Ok(())
+    fn send<C: Carrier>(&mut self, ready: &Ready, report: &Report) -> anyhow::Result<()> {
+        let frames = C::count(&ready.label);
+        report.sent(&ready.composed, self.toggle, frames)?;
+        for number in 0..frames {
+            match self.write::<C>(ready, number) {
+                Ok(place) => self.print(place.as_slice(), report)?,
+                Err(refusal) => report.no_frame(number, refusal)?,
             }
         }
-    }
-
-    // Says what is sent.
-    fn announce(
-        &self,
-        rt: &HostRuntime,
-        number: u64,
-        composed: &Composed,
-        frames: usize,
-    ) -> anyhow::Result<()> {
-        let toggle = if self.toggle { 1 } else { 0 };
-        print!(rt; "# line {number}: \"")?;
-        print_text(rt, composed.text.as_slice())?;
-        println!(rt; "\", message toggle {toggle}, {frames} frames")?;
-        for tag in composed.tags.as_slice() {
-            let class = tag.class;
-            print!(rt; "#   class {class}: \"")?;
-            if let Some(part) = tag.part(composed.text.as_slice()) {
-                print_text(rt, part)?;
-            }
-            println!(rt; "\"")?;
-        }
+        self.toggle = !self.toggle;
         Ok(())
     }
 
-    fn write_frames<C: Carrier>(
-        &self,
-        rt: &HostRuntime,
-        label: &Sealed,
-        text: &[u8],
-    ) -> anyhow::Result<()> {
-        for n in 0..C::count(label) {
-            let mut place = [0u8; 21];
-            match C::write(
-                label,
-                NO_ITEM,
-                text,
-                self.toggle,
-                self.service,
-                n,
-                &mut place,
-            ) {
-                Ok(()) => self.write_line(rt, &place)?,
-                Err(refusal) => {
-                    let why = reason(refusal);
-                    println!(rt; "# frame {n}: {why}")?;
-                }
-            }
-        }
-        Ok(())
+    // A frame in its place: its length, the frame, zeros. Both item bits are 0: no item is told of yet.
+    fn write<C: Carrier>(&self, ready: &Ready, number: usize) -> Result<[u8; 21], Refusal> {
+        let mut place = [0u8; 21];
+        C::write(
+            &ready.label,
+            ItemBits::default(),
+            ready.composed.text.as_slice(),
+            self.toggle,
+            self.service,
+            number,
+            &mut place,
+        )?;
+        Ok(place)
     }
 
-    fn write_line(&self, rt: &HostRuntime, place: &[u8; 21]) -> anyhow::Result<()> {
-        let length = place[0] as usize;
-        if length <= 20 {
-            rt.println(self.form.line(rt.alloc(), &place[1..length + 1])?.as_str())?;
-        }
-        Ok(())
-    }
-}
-
-// A text as it can be read: bytes that are no ASCII as \xHH.
-fn print_text(rt: &HostRuntime, text: &[u8]) -> anyhow::Result<()> {
-    for byte in text {
-        let b = *byte;
-        if b < 0x7F {
-            let c = b as char;
-            print!(rt; "{c}")?;
-        } else {
-            print!(rt; "\\x{b:02X}")?;
+    fn print(&self, place: &[u8], report: &Report) -> anyhow::Result<()> {
+        match frame_in(place) {
+            Some(frame) => report.frame(Line {
+                form: self.form,
+                frame,
+            }),
+            None => Ok(()),
         }
     }
-    Ok(())
 }

@@ -9,3 +9,4 @@ pub mod part;
 pub mod refusal;
 pub mod sealed;
 pub mod tag;
+mod words;

@@ -1,7 +1,10 @@
-use std::alloc::{AllocError, Global};
+ghost use Rattle.std.specs.Prelude.{◌≡◌, Some};
+ghost use Rattle.lines.specs.Form.{gap, line_text};
+
+use std::fmt;
 
 // How a carrier's frames are written to a line.
-#[derive(Clone, Copy)]
+#[derive(Clone, Copy, Debug, PartialEq, Eq)]
 pub enum Form {
     // Blocks of two bytes, parted by spaces.
     Blocks,
@@ -9,33 +12,33 @@ pub enum Form {
     Row,
 }
 
-fn digit(nibble: u8) -> char {
-    match nibble {
-        0..=9 => (b'0' + nibble) as char,
-        10..=15 => (b'A' + (nibble - 10)) as char,
-        _ => '?',
+impl Form {
+    // What stands before the byte at this place.
+    fn gap(self, at: usize) -> &'static str
+        ensures { result.now ≡ gap self at }
+    {
+        match self {
+            Form::Blocks if at > 0 && at % 2 == 0 => " ",
+            _ => "",
+        }
     }
 }
 
-impl Form {
-    // A space stands before the byte at this place.
-    fn has_space(self, at: usize) -> bool {
-        match self {
-            Form::Blocks => at > 0 && at % 2 == 0,
-            Form::Row => false,
-        }
-    }
+// A frame that prints as a line of hexadecimal digits.
+#[derive(Clone, Copy, Debug)]
+pub struct Line<'a> {
+    pub form: Form,
+    pub frame: &'a [u8],
+}
 
-    // The frame in hexadecimal digits.
-    pub fn line(self, heap: Global, frame: &[u8]) -> Result<String, AllocError> {
-        let mut line = String::new(heap);
-        for (at, byte) in frame.iter().enumerate() {
-            if self.has_space(at) {
-                line.push(' ')?;
-            }
-            line.push(digit(*byte / 16))?;
-            line.push(digit(*byte % 16))?;
+impl fmt::Display for Line<'_> {
+    ghost output = { λ line. Some (line_text line.form line.frame.now) };
+
+    fn fmt<W: fmt::Write>(&self, f: &mut fmt::Formatter<W>) -> fmt::Result {
+        for (at, &byte) in self.frame.iter().enumerate() {
+            let gap = self.form.gap(at);
+            write!(f, "{gap}{byte:02X}")?;
         }
-        Ok(line)
+        Ok(())
     }
 }

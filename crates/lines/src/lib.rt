@@ -1,5 +1,4 @@
-// Frames and refusals as lines of text.
+// Frames as lines of text.
 #![tactic(auto)]
 
 pub mod form;
-pub mod reason;

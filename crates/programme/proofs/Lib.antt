@@ -1,4 +1,4 @@
-mod Marked
-mod Numbers
-mod Scans
-mod Values
+mod Decimals
+mod Fronts
+pub mod Marked
+pub mod Values

@@ -1,13 +1,13 @@
 -- What a row of digits writes, and the tenths of a decimal number.
-use Rattle.std.proofs.Common.{◌≡◌, ℕ, zero, suc, ◌+◌, ◌-◌, ◌*◌, ◌^◌, ◌<◌, ◌≤◌, min, Bool, true, false, cond, eqb, leb, List, [], ◌∷◌, ◌++◌, length, get_or, Ok, Err, fold, sym, refl, ap, ◌∙◌, ⊎_elim, mul_assoc, mul_comm, add-mul, pow-suc, zero-mul, le-mul_of_pos_right, div-one, arith}
+use Rattle.std.proofs.Common.{◌≡◌, ℕ, zero, suc, ◌+◌, ◌-◌, ◌*◌, ◌^◌, ◌<◌, ◌≤◌, Bool, true, false, cond, eqb, leb, List, [], ◌∷◌, ◌++◌, length, get_or, fold, refl, ap, ◌∙◌, mul_assoc, mul_comm, add-mul, pow-suc, zero-mul, le-mul_of_pos_right, div-one, arith}
 use native.Mathlib.Nat.{mul-div-mul_right}
 use lib.Arith.{digits_lt, digits_div}
 use Rattle.std.specs.List.{prefix_len}
 use Rattle.std.proofs.lemmas.List.{append-nil}
-use Rattle.std.proofs.lemmas.Bool.{eqb-true, eq-eqb, ne_eqb, cases_eq, and_parts, leb-true, lt-ltb, le-ltb, cond-true, cond-false}
+use Rattle.std.proofs.lemmas.List.Sums.{fold-append}
+use Rattle.std.proofs.lemmas.Bool.{eqb-true, eq-eqb, and_parts, leb-true}
 use Rattle.programme.specs.Numerals.{is_digit, all_digits, numeral}
-use Rattle.programme.specs.Depth.{tenths_of, shallow}
-use Rattle.programme.specs.declared.fault.Fault.TheVariants.{TooDeep}
+use Rattle.programme.specs.Depth.{tenths_of}
 
 abbrev step : ℕ → ℕ → ℕ
 step n b = n * 10 + (b - 48)
@@ -32,12 +32,8 @@ weighs n (b ∷ bs) =
     let m = zero-mul (p * 10) in
     rw w (omega (arith, front, self, a, z, m))
 
-joined_from : (n : ℕ) (ws fs : List ℕ) → fold step n (ws ++ fs) ≡ fold step (fold step n ws) fs
-joined_from n [] fs = refl
-joined_from n (b ∷ ws) fs = joined_from (step n b) ws fs
-
-pub joined : (ws fs : List ℕ) → numeral (ws ++ fs) ≡ numeral ws * 10 ^ length fs + numeral fs
-joined ws fs = joined_from 0 ws fs ∙ weighs (numeral ws) fs
+joined : (ws fs : List ℕ) → numeral (ws ++ fs) ≡ numeral ws * 10 ^ length fs + numeral fs
+joined ws fs = fold-append step 0 ws fs ∙ weighs (numeral ws) fs
 
 pub zero_numeral : (ws fs : List ℕ) → numeral ws ≡ 0 → numeral fs ≡ 0 → numeral (ws ++ fs) ≡ 0
 zero_numeral ws fs p q = joined ws fs ∙ rw (p, q) (omega (arith, zero-mul (10 ^ length fs)))
@@ -50,7 +46,7 @@ first_counted : (t : Bool) (a b : ℕ) → eqb (cond t (1 + a) 0) (suc b) ≡ tr
 first_counted true a b e = (refl, omega (arith, eqb-true (1 + a) (suc b) e))
 first_counted false a b e = absurd (omega (arith, eqb-true 0 (suc b) e))
 
-pub first_digit : (b : ℕ) (bs : List ℕ) → all_digits (b ∷ bs) ≡ true → b - 48 < 10
+first_digit : (b : ℕ) (bs : List ℕ) → all_digits (b ∷ bs) ≡ true → b - 48 < 10
 first_digit b bs h =
     let t = and_parts (leb 48 b) (leb b 57) (first_counted (is_digit b) (prefix_len is_digit bs) (length bs) h).0 in
     omega (arith, leb-true b 57 t.1)
@@ -81,19 +77,3 @@ tenths_are ws (b ∷ fs) h =
 pub tenth_lt : (fs : List ℕ) → all_digits fs ≡ true → get_or fs 0 48 - 48 < 10
 tenth_lt [] h = omega arith
 tenth_lt (b ∷ bs) h = first_digit b bs h
-
--- the program's tests: u is what it has of a row, at most 100
-pub both_zero : (ws fs : List ℕ) (u : ℕ) → numeral ws ≡ 0 → u ≡ min 100 (numeral fs) → eqb u 0 ≡ eqb (numeral (ws ++ fs)) 0
-both_zero ws fs u z e =
-    ⊎_elim
-    (λ (q : numeral fs ≡ 0). eq-eqb u 0 (omega arith) ∙ sym (eq-eqb _ 0 (zero_numeral ws fs z q)))
-    (λ (q : numeral fs ≡ 0 → ⊥). ne_eqb u 0 (λ k. q (omega arith)) ∙ sym (ne_eqb _ 0 (λ k. q (omega (arith, part_le ws fs)))))
-    (cases_eq (numeral fs) 0)
-
-pub too_deep : (ws fs : List ℕ) (u : ℕ) → all_digits fs ≡ true → u ≡ min 100 (numeral ws) → u ≡ 100 → Err TooDeep ≡ shallow (tenths_of ws fs)
-too_deep ws fs u h e f = sym (cond-false _ _ _ (le-ltb (tenths_of ws fs) 1000 (omega (arith, tenths_are ws fs h))))
-
-pub measured : (ws fs : List ℕ) (u t : ℕ) → all_digits fs ≡ true → u ≡ min 100 (numeral ws) → (u ≡ 100 → ⊥) → t ≡ get_or fs 0 48 - 48 → Ok (u * 10 + t) ≡ shallow (tenths_of ws fs)
-measured ws fs u t h e f g =
-    let v : u * 10 + t ≡ tenths_of ws fs = omega (arith, tenths_are ws fs h) in
-    sym (cond-true _ _ _ (lt-ltb (tenths_of ws fs) 1000 (omega (arith, tenth_lt fs h))) ∙ ap Ok (sym v))

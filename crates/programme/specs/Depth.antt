@@ -1,7 +1,7 @@
 -- What depth a row of bytes says, in tenths of a metre, or why it says none.
 use Rattle.std.specs.Prelude.{ℕ, ◌*◌, ◌/◌, ◌^◌, Bool, true, false, cond, not, ◌&&◌, ◌||◌, List, [], ◌∷◌, ◌++◌, length, take, drop, Some, None, Ok, Err, Option, Result, ◌==◌, nat_lt}
 use Rattle.std.specs.List.{prefix_len}
-use Rattle.programme.specs.declared.depth.Number.{Number}
+use Rattle.programme.specs.declared.number.Number.{Number}
 use Rattle.programme.specs.declared.fault.Fault.{Fault}
 use Rattle.programme.specs.declared.fault.Fault.TheVariants.{NoDepth, BelowZero, TooDeep}
 use Rattle.programme.specs.Numerals.{is_digit, all_digits, numeral}

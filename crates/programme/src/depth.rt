@@ -1,83 +1,15 @@
 // The depth that a gauge's reading gives.
-ghost use Rattle.std.specs.Prelude.{◌≡◌, ◌-◌, true, cond, ◌++◌, IfSome, ◌==◌, slice_index_or};
-ghost use Rattle.std.specs.Option.{option_map};
-ghost use Rattle.programme.specs.Numerals.{all_digits, numeral};
-ghost use Rattle.programme.specs.Depth.{is_mark, number_of, parts_of, tenths_of, shallow, judged, depth_of};
+ghost use Rattle.std.specs.Prelude.{◌≡◌};
+ghost use Rattle.programme.specs.Depth.{number_of, judged, depth_of};
 
-use crate::digits::{digits, up_to_100};
 use crate::fault::Fault;
-
-// A decimal number: the digits before and behind its mark.
-#[derive(Clone, Copy)]
-struct Number<'a> {
-    whole: &'a [u8],
-    fraction: &'a [u8],
-}
-
-fn is_mark(b: u8) -> bool
-    ensures { result ≡ is_mark b }
-{
-    b == b'.' || b == b','
-}
-
-fn split_number(s: &[u8]) -> Option<Number<'_>>
-    ensures value { option_map parts_of result ≡ number_of s.now }
-    ensures digits { IfSome result (λ n. all_digits n.fraction.now ≡ true) }
-{
-    let n = digits(s);
-    if n == 0 {
-        return None;
-    }
-    let whole = &s[0..n];
-    if n == s.len() {
-        return Some(Number {
-            whole,
-            fraction: &s[n..],
-        });
-    }
-    let fraction = &s[n + 1..];
-    if is_mark(s[n]) && digits(fraction) == fraction.len() {
-        return Some(Number { whole, fraction });
-    }
-    None
-}
-
-// The first digit behind the mark: what is behind it is cut.
-fn tenth(fraction: &[u8]) -> u16
-    ensures { result ≡ slice_index_or fraction.now 0 48 - 48 }
-{
-    if fraction.len() == 0 {
-        return 0;
-    }
-    fraction[0].saturating_sub(b'0') as u16
-}
-
-impl Number<'_> {
-    fn is_zero(self) -> bool
-        ensures { result ≡ (numeral (self.entry.whole.now ++ self.entry.fraction.now) == 0) }
-    {
-        up_to_100(self.whole) == 0 && up_to_100(self.fraction) == 0
-    }
-
-    fn tenths(self) -> Result<u16, Fault>
-        requires { all_digits self.fraction.now ≡ true }
-        ensures { result ≡ shallow (tenths_of self.entry.whole.now self.entry.fraction.now) }
-    {
-        let metres = up_to_100(self.whole);
-        if metres == 100 {
-            return Err(Fault::TooDeep);
-        }
-        Ok(metres * 10 + tenth(self.fraction))
-    }
-}
+use crate::number::Number;
 
 // The depth of a number behind its sign.
 fn judge(below: bool, s: &[u8]) -> Result<u16, Fault>
     ensures { result ≡ judged below (number_of s.now) }
 {
-    let Some(number) = split_number(s) else {
-        return Err(Fault::NoDepth);
-    };
+    let number = Number::read(s).ok_or(Fault::NoDepth)?;
     if below && !number.is_zero() {
         return Err(Fault::BelowZero);
     }

@@ -1,34 +1,19 @@
 // Rows of decimal digits.
-ghost use Rattle.std.specs.Prelude.{◌≡◌, ◌≤◌, min, length};
-ghost use Rattle.std.specs.List.{prefix_len};
-ghost use Rattle.programme.specs.Numerals.{is_digit, numeral};
+ghost use Rattle.std.specs.Prelude.{◌≡◌, min};
+ghost use Rattle.programme.specs.Numerals.{all_digits, numeral};
 
-pub(crate) fn is_digit(b: u8) -> bool
-    ensures { result ≡ is_digit b }
+pub(crate) fn all_digits(s: &[u8]) -> bool
+    ensures { result ≡ all_digits s.now }
 {
-    b >= b'0' && b <= b'9'
-}
-
-// How many digits `s` begins with.
-pub(crate) fn digits(s: &[u8]) -> usize
-    ensures value { result ≡ prefix_len is_digit s.now }
-    ensures within { result ≤ length s.now }
-{
-    let mut n = 0;
-    while n < s.len() && is_digit(s[n]) {
-        n += 1;
-    }
-    n
+    s.iter().all(u8::is_ascii_digit)
 }
 
 // What a row of digits writes, or 100 where that is more.
 pub(crate) fn up_to_100(s: &[u8]) -> u16
     ensures { result ≡ min 100 (numeral s.now) }
 {
-    let mut n: u16 = 0;
-    for b in s {
-        let digit = b.saturating_sub(b'0');
-        n = (n * 10 + digit as u16).min(100);
-    }
-    n
+    s.iter().fold(0u16, |n, b| {
+        let digit = u16::from(b.saturating_sub(b'0'));
+        n.saturating_mul(10).saturating_add(digit).min(100)
+    })
 }

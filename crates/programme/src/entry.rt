@@ -1,5 +1,5 @@
 // What a line of the programme says. The parts are borrowed from the line.
-#[derive(Clone, Copy)]
+#[derive(Clone, Copy, Debug, PartialEq, Eq)]
 pub enum Entry<'a> {
     // Nothing to send.
     Nothing,

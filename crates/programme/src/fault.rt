@@ -1,8 +1,10 @@
-ghost use Rattle.std.specs.Prelude.{◌≡◌};
+ghost use Rattle.std.specs.Prelude.{◌≡◌, Some};
 ghost use Rattle.programme.specs.Faults.{message_of};
 ghost use Rattle.programme.specs.declared.fault.Fault.TheVariants.{NoMemory};
 
 use std::alloc::AllocError;
+use std::error::Error;
+use std::fmt;
 
 // Why a line is refused, or no label can be made of it.
 #[derive(Clone, Copy, PartialEq, Eq, Debug)]
@@ -19,13 +21,6 @@ pub enum Fault {
 }
 
 impl Fault {
-    // What to tell whoever wrote the line.
-    pub fn message(self) -> &'static str
-        ensures { result.now ≡ message_of self }
-    {
-        self.words()
-    }
-
     fn words(self) -> &'static str
         ensures { result.now ≡ message_of self }
     {
@@ -42,6 +37,17 @@ impl Fault {
         }
     }
 }
+
+// What to tell whoever wrote the line.
+impl fmt::Display for Fault {
+    ghost output = { λ fault. Some (message_of fault) };
+
+    fn fmt<W: fmt::Write>(&self, f: &mut fmt::Formatter<W>) -> fmt::Result {
+        f.write_str(self.words())
+    }
+}
+
+impl Error for Fault {}
 
 impl From<AllocError> for Fault {
     ghost from_gives = { λ _ r. r ≡ NoMemory };

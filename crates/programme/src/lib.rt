@@ -7,6 +7,7 @@ mod digits;
 pub mod entry;
 pub mod fault;
 pub mod line;
+mod number;
 mod rows;
 #[cfg(test)]
 mod tests;

@@ -1,26 +1,24 @@
 // Reads the programme, one line at a time.
-ghost use Rattle.std.specs.Prelude.{◌≡◌, ◌≤◌, length};
+ghost use Rattle.std.specs.Prelude.{◌≡◌, ◌+◌, take, drop};
 ghost use Rattle.programme.specs.Lines.{heard, separator_at, reading_of, gauge_of, song_of, announcement_of, spoken_of, entry_of, line_of};
 
 use crate::depth::read_depth;
 use crate::entry::Entry;
 use crate::fault::Fault;
 use crate::rows::{
-    field_in, from, is_word, outside_quotes, slash, spaces, trim, without_return, word_length,
+    field_in, is_blank, split_outside_quotes, split_slash, split_while, trim, without_return,
 };
 use crate::time::is_time;
 
-// Where the field of the time ends: at a semicolon if there is one outside quotes, else at a comma.
-fn separator(s: &[u8]) -> usize
-    ensures value { result ≡ separator_at s.now }
-    ensures within { result ≤ length s.now }
+// The fields of the time and of the metres, parted by the first semicolon outside quotes, or else by the first comma.
+fn split_fields(s: &[u8]) -> (&[u8], &[u8])
+    ensures time { result.0.now ≡ take (separator_at s.now) s.now }
+    ensures metres { result.1.now ≡ drop (separator_at s.now + 1) s.now }
 {
-    let semicolon = outside_quotes(s, b';');
-    if semicolon < s.len() {
-        semicolon
-    } else {
-        outside_quotes(s, b',')
+    if let Some(fields) = split_outside_quotes(s, b';') {
+        return fields;
     }
+    split_outside_quotes(s, b',').unwrap_or((s, &[]))
 }
 
 fn reading<'a>(time: &'a [u8], metres: &[u8]) -> Result<Entry<'a>, Fault>
@@ -29,25 +27,23 @@ fn reading<'a>(time: &'a [u8], metres: &[u8]) -> Result<Entry<'a>, Fault>
     if !is_time(time) {
         return Err(Fault::NoTime);
     }
-    match read_depth(metres) {
-        Ok(tenths) => Ok(Entry::Reading { time, tenths }),
-        Err(fault) => Err(fault),
-    }
+    let tenths = read_depth(metres)?;
+    Ok(Entry::Reading { time, tenths })
 }
 
 fn gauge(s: &[u8]) -> Result<Entry<'_>, Fault>
     ensures { heard result ≡ gauge_of s.now }
 {
-    let n = separator(s);
-    reading(field_in(&s[0..n]), field_in(from(s, n + 1)))
+    let (time, metres) = split_fields(s);
+    reading(field_in(time), field_in(metres))
 }
 
 fn song(s: &[u8]) -> Result<Entry<'_>, Fault>
     ensures { heard result ≡ song_of s.now }
 {
-    let n = slash(s);
-    let title = trim(&s[0..n]);
-    let artist = trim(from(s, n + 3));
+    let (title, artist) = split_slash(s).ok_or(Fault::NoSong)?;
+    let title = trim(title);
+    let artist = trim(artist);
     if title.is_empty() || artist.is_empty() {
         return Err(Fault::NoSong);
     }
@@ -67,27 +63,25 @@ fn announcement(s: &[u8]) -> Result<Entry<'_>, Fault>
 fn spoken(s: &[u8]) -> Result<Entry<'_>, Fault>
     ensures { heard result ≡ spoken_of s.now }
 {
-    let n = word_length(s);
-    let word = &s[0..n];
-    let rest = trim(from(s, n));
-    if is_word(word, b"song") {
-        return song(rest);
+    let (word, behind) = split_while(s, |b| b != b' ');
+    let behind = trim(behind);
+    match word {
+        b"song" => song(behind),
+        b"say" => announcement(behind),
+        _ => Err(Fault::Unknown),
     }
-    if is_word(word, b"say") {
-        return announcement(rest);
-    }
-    Err(Fault::Unknown)
 }
 
+#[tactic(auto, unfolding(crate::specs::Lines::entry_of))]
 fn entry_in(s: &[u8]) -> Result<Entry<'_>, Fault>
     ensures { heard result ≡ entry_of s.now }
 {
-    if spaces(s) == s.len() {
+    if is_blank(s) {
         return Ok(Entry::Nothing);
     }
-    match s[0] {
-        b'#' => Ok(Entry::Nothing),
-        b'"' | b'0'..=b'9' => gauge(s),
+    match s {
+        [b'#', ..] => Ok(Entry::Nothing),
+        [b'"' | b'0'..=b'9', ..] => gauge(s),
         _ => spoken(s),
     }
 }

@@ -1,74 +1,60 @@
 // Parts of a row of bytes.
-ghost use Rattle.std.specs.Prelude.{◌≡◌, ◌≤◌, false, not, length, drop};
+ghost use Rattle.std.specs.Prelude.{◌≡◌, ℕ, ◌+◌, ◌<◌, Bool, true, false, length, take, drop, MatchOption};
 ghost use Rattle.std.specs.List.{prefix_len};
-ghost use Rattle.std.specs.Str.{bytes_eq};
-ghost use Rattle.programme.specs.Rows.{is_space, is_other, trim_front, trim_end, trimmed, without_return, unquoted, field, turned, outside, slash_first, slash_at};
+ghost use Rattle.programme.specs.Rows.{trim_front, trim_end, trimmed, is_blank, without_return, unquoted, field, outside, slash_first, slash_at};
 
-// How many spaces `s` begins with.
-pub(crate) fn spaces(s: &[u8]) -> usize
-    ensures value { result ≡ prefix_len is_space s.now }
-    ensures within { result ≤ length s.now }
+// The longest front of `s` whose bytes pass the test, and what stands behind it.
+pub(crate) fn split_while<F: Fn(u8) -> bool>(s: &[u8], passes: F) -> (&[u8], &[u8])
+    requires { F.IsAlwaysCallable passes }
+    ensures { (p : ℕ → Bool) → ((b : ℕ) (r : Bool) → F.post passes b r → r ≡ p b) → (result.0.now ≡ take (prefix_len p s.now) s.now) × (result.1.now ≡ drop (prefix_len p s.now) s.now) }
 {
-    let mut n = 0;
-    while n < s.len() && s[n] == b' ' {
-        n += 1;
-    }
-    n
+    let n = s.iter().take_while(|b| passes(**b)).count();
+    s.split_at(n)
 }
 
-// How many bytes stand before the first space.
-pub(crate) fn word_length(s: &[u8]) -> usize
-    ensures value { result ≡ prefix_len is_other s.now }
-    ensures within { result ≤ length s.now }
+pub(crate) fn is_blank(s: &[u8]) -> bool
+    ensures { result ≡ is_blank s.now }
 {
-    let mut n = 0;
-    while n < s.len() && s[n] != b' ' {
-        n += 1;
-    }
-    n
+    s.iter().all(|b| *b == b' ')
 }
 
-// `s` from its place `n` on, and nothing where it is shorter.
-pub(crate) fn from(s: &[u8], n: usize) -> &[u8]
-    ensures { result.now ≡ drop n s.now }
+fn trim_front(s: &[u8]) -> &[u8]
+    ensures { result.now ≡ trim_front s.now }
 {
-    if n < s.len() { &s[n..] } else { &s[s.len()..] }
+    split_while(s, |b| b == b' ').1
 }
 
 fn trim_end(s: &[u8]) -> &[u8]
     ensures { result.now ≡ trim_end s.now }
 {
-    let mut n = s.len();
-    while n > 0 && s[n - 1] == b' ' {
-        n -= 1;
+    let mut front = s;
+    while let [shorter @ .., b' '] = front {
+        front = shorter;
     }
-    &s[0..n]
+    front
 }
 
 pub(crate) fn trim(s: &[u8]) -> &[u8]
     ensures { result.now ≡ trimmed s.now }
 {
-    trim_end(&s[spaces(s)..])
+    trim_end(trim_front(s))
 }
 
 pub(crate) fn without_return(s: &[u8]) -> &[u8]
     ensures { result.now ≡ without_return s.now }
 {
-    let n = s.len();
-    if n == 0 {
-        return s;
+    match s {
+        [line @ .., b'\r'] => line,
+        _ => s,
     }
-    if s[n - 1] == b'\r' { &s[0..n - 1] } else { s }
 }
 
 fn unquote(s: &[u8]) -> &[u8]
     ensures { result.now ≡ unquoted s.now }
 {
-    let n = s.len();
-    if n >= 2 && s[0] == b'"' && s[n - 1] == b'"' {
-        &s[1..n - 1]
-    } else {
-        s
+    match s {
+        [b'"', inner @ .., b'"'] => inner,
+        _ => s,
     }
 }
 
@@ -79,55 +65,38 @@ pub(crate) fn field_in(s: &[u8]) -> &[u8]
     unquote(trim(s))
 }
 
-fn turn(quoted: bool, b: u8) -> bool
-    ensures { result ≡ turned quoted b }
+// The parts before and behind the first `b` outside quotes.
+pub(crate) fn split_outside_quotes(s: &[u8], b: u8) -> Option<(&[u8], &[u8])>
+    ensures { let n = outside b false s.now in MatchOption result (n ≡ length s.now) (λ p. (n < length s.now) × (p.0.now ≡ take n s.now) × (p.1.now ≡ drop (n + 1) s.now)) }
 {
-    if b == b'"' { !quoted } else { quoted }
-}
-
-// How many bytes stand before the first `b` outside quotes.
-pub(crate) fn outside_quotes(s: &[u8], b: u8) -> usize
-    ensures value { result ≡ outside b false s.now }
-    ensures within { result ≤ length s.now }
-{
-    let mut i = 0;
     let mut quoted = false;
-    while i < s.len() {
-        if s[i] == b && !quoted {
-            return i;
+    for (at, x) in s.iter().enumerate() {
+        if *x == b && !quoted {
+            return Some((&s[..at], &s[at + 1..]));
         }
-        quoted = turn(quoted, s[i]);
-        i += 1;
+        quoted ^= *x == b'"';
     }
-    i
+    None
 }
 
-fn begins_with_slash(s: &[u8]) -> bool
-    ensures { result ≡ slash_first s.now }
+// What stands behind the slash between two spaces that `s` begins with.
+fn behind_slash(s: &[u8]) -> Option<&[u8]>
+    ensures { MatchOption result (slash_first s.now ≡ false) (λ b. (slash_first s.now ≡ true) × (b.now ≡ drop 3 s.now)) }
 {
-    if s.len() < 3 {
-        return false;
+    match s {
+        [b' ', b'/', b' ', behind @ ..] => Some(behind),
+        _ => None,
     }
-    s[0] == b' ' && s[1] == b'/' && s[2] == b' '
 }
 
-// How many bytes stand before the first slash between two spaces.
-pub(crate) fn slash(s: &[u8]) -> usize
-    ensures value { result ≡ slash_at s.now }
-    ensures within { result ≤ length s.now }
+// The parts before and behind the first slash between two spaces. A counted loop, because a cut takes its place.
+pub(crate) fn split_slash(s: &[u8]) -> Option<(&[u8], &[u8])>
+    ensures { let n = slash_at s.now in MatchOption result (n ≡ length s.now) (λ p. (p.0.now ≡ take n s.now) × (p.1.now ≡ drop (n + 3) s.now)) }
 {
-    let mut i = 0;
-    while i < s.len() {
-        if begins_with_slash(&s[i..]) {
-            return i;
+    for at in 0..s.len() {
+        if let Some(behind) = behind_slash(&s[at..]) {
+            return Some((&s[..at], behind));
         }
-        i += 1;
     }
-    i
-}
-
-pub(crate) fn is_word(s: &[u8], word: &[u8]) -> bool
-    ensures { result ≡ bytes_eq s.now word.now }
-{
-    s == word
+    None
 }

@@ -1,7 +1,9 @@
+use crate::composed::Composed;
 use crate::entry::Entry;
 use crate::fault::Fault;
 use crate::line::read_line;
 use crate::text::compose;
+use label::tag::Tag;
 use std::test::Fail;
 
 fn depth_of(line: &str) -> Result<u16, Fault> {
@@ -53,31 +55,34 @@ fn faults(rt: HostRuntime) {
 }
 
 #[test]
-fn nothing_to_send(rt: HostRuntime) -> Result<(), Fail> {
+fn nothing_to_send(rt: HostRuntime) {
     for line in ["", "  \r", "# 06:00;2.4"] {
-        assert!(rt; matches!(read_line(line.as_bytes())?, Entry::Nothing));
+        assert_eq!(rt; read_line(line.as_bytes()), Ok(Entry::Nothing));
     }
-    Ok(())
+}
+
+fn label_of(rt: &HostRuntime, line: &str) -> Result<Composed, Fail> {
+    let entry = read_line(line.as_bytes())?;
+    Ok(compose(rt.alloc(), entry).ok_or("no label")??)
+}
+
+fn tag(class: u8, start: u8, extent: u8) -> Tag {
+    Tag {
+        class,
+        start,
+        extent,
+    }
 }
 
 #[test]
 fn labels(rt: HostRuntime) -> Result<(), Fail> {
-    let entry = read_line(b"song  House of the rising sun / Eric Burdon")?;
-    let label = compose(rt.alloc(), entry).ok_or("no label")??;
-    assert!(rt;
-        label.text.as_slice()
-            == b"You are listening to \"House of the rising sun\" by Eric Burdon".as_slice()
-    );
-    assert!(rt; label.tags.len() == 2);
-    assert!(rt;
-        label.tags[0].class == 1 && label.tags[0].start == 22 && label.tags[0].extent == 22
-    );
-    assert!(rt;
-        label.tags[1].class == 4 && label.tags[1].start == 50 && label.tags[1].extent == 10
-    );
-    let label = compose(rt.alloc(), read_line(b"6:00;12.49")?).ok_or("no label")??;
-    assert!(rt; label.text.as_slice() == b"Sill 12.4 m".as_slice());
-    assert!(rt; label.tags.len() == 1);
-    assert!(rt; label.tags[0].class == 56 && label.tags[0].start == 5 && label.tags[0].extent == 3);
+    let song = label_of(&rt, "song  House of the rising sun / Eric Burdon")?;
+    let text = "You are listening to \"House of the rising sun\" by Eric Burdon";
+    assert_eq!(rt; song.text.as_slice(), text.as_bytes());
+    let tags = [tag(1, 22, 22), tag(4, 50, 10)];
+    assert_eq!(rt; song.tags.as_slice(), tags.as_slice());
+    let reading = label_of(&rt, "6:00;12.49")?;
+    assert_eq!(rt; reading.text.as_slice(), "Sill 12.4 m".as_bytes());
+    assert_eq!(rt; reading.tags.as_slice(), [tag(56, 5, 3)].as_slice());
     Ok(())
 }

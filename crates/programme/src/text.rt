@@ -19,18 +19,21 @@ const DEPTH: u8 = 56;
 fn song_text(heap: Global, title: &[u8], artist: &[u8]) -> Result<Vec<u8>, AllocError>
     ensures { IfOk result (λ v. v.items ≡ song_text title.now artist.now) }
 {
-    let mut text = Vec::from_slice(heap, b"You are listening to \"")?;
-    text.extend_from_slice(title)?;
-    text.extend_from_slice(b"\" by ")?;
-    text.extend_from_slice(artist)?;
-    Ok(text)
+    [
+        b"You are listening to \"".as_slice(),
+        title,
+        b"\" by ",
+        artist,
+    ]
+    .concat(heap)
 }
 
+#[tactic(auto, using(crate::proofs::Marked::song_marks))]
 fn song(heap: Global, title: &[u8], artist: &[u8]) -> Result<Composed, Fault>
     ensures label { Composes result (song_label title.now artist.now) }
     ensures marks { Marks result (title.now ∷ (artist.now ∷ [])) }
 {
-    if title.len() == 0 || artist.len() == 0 {
+    if title.is_empty() || artist.is_empty() {
         return Err(Fault::NoSong);
     }
     // The title stands behind 22 bytes and the artist behind 5 more, and a marker is a byte.
@@ -52,25 +55,14 @@ fn song(heap: Global, title: &[u8], artist: &[u8]) -> Result<Composed, Fault>
     Ok(Composed { text, tags })
 }
 
-// How many of a depth's two digits before the point are left out.
-fn left_out(tenths: u16) -> usize
-    ensures { result ≡ (if nat_lt tenths 100 then 1 else 0) }
-{
-    if tenths < 100 { 1 } else { 0 }
-}
-
 fn reading_text(heap: Global, tenths: u16) -> Result<Vec<u8>, AllocError>
     requires { tenths < 1000 }
     ensures { IfOk result (λ v. v.items ≡ reading_text tenths) }
 {
-    let tens = b'0' + (tenths / 100) as u8;
-    let units = b'0' + (tenths / 10 % 10) as u8;
-    let tenth = b'0' + (tenths % 10) as u8;
-    let digits = [tens, units, b'.', tenth];
-    let mut text = Vec::from_slice(heap, b"Sill ")?;
-    text.extend_from_slice(&digits[left_out(tenths)..])?;
-    text.extend_from_slice(b" m")?;
-    Ok(text)
+    let metres = tenths / 10;
+    let tenth = tenths % 10;
+    let text = format!(in heap; "Sill {metres}.{tenth} m")?;
+    Ok(text.into_bytes())
 }
 
 fn reading(heap: Global, tenths: u16) -> Result<Composed, Fault>
@@ -80,15 +72,12 @@ fn reading(heap: Global, tenths: u16) -> Result<Composed, Fault>
     if tenths >= 1000 {
         return Err(Fault::TooDeep);
     }
-    let extent = 3 - left_out(tenths) as u8;
-    let tags = Vec::from_slice(
-        heap,
-        &[Tag {
-            class: DEPTH,
-            start: 5,
-            extent,
-        }],
-    )?;
+    let depth = Tag {
+        class: DEPTH,
+        start: 5,
+        extent: if tenths < 100 { 2 } else { 3 },
+    };
+    let tags = Vec::from_slice(heap, &[depth])?;
     let text = reading_text(heap, tenths)?;
     Ok(Composed { text, tags })
 }

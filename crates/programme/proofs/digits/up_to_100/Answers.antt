@@ -1,14 +1,17 @@
-use Rattle.std.proofs.Common.{◌≡◌, ◌+◌, ◌-◌, ◌*◌, min, get_or, take, ap, ◌∙◌, arith}
-use Rattle.std.proofs.lemmas.List.Sums.{fold_more}
-use Rattle.std.proofs.lemmas.List.{take_all}
-use Rattle.programme.specs.Numerals.{numeral}
+use Rattle.std.proofs.Common.{◌≡◌, ℕ, ◌+◌, ◌-◌, ◌*◌, ◌∙◌, min, rules, tests, arith}
+use Rattle.std.proofs.lemmas.Iterator.{YieldsList-from_slice}
+use Rattle.std.proofs.lemmas.Iterator.Consumers.{fold_from_yields_List}
+use Rattle.std.proofs.lemmas.List.Folds.{fold_along}
 use Rattle.programme.proofs.digits.up_to_100.Goals as goal
 
-pub loop-b-preserved : goal.loop-b-preserved
-loop-b-preserved c =
-    let e : numeral (take (c.loop-b.b-index + 1) c.args.s.now) ≡ numeral (take c.loop-b.b-index c.args.s.now) * 10 + (get_or c.args.s.now c.loop-b.b-index 0 - 48)
-    = fold_more (λ n b. n * 10 + (b - 48)) 0 c.args.s.now c.loop-b.b-index 0 c.loop-b-test.true in
-    omega (arith, c.loop-b.invariant, c.min-n.ensures, c.saturating_sub-digit.ensures)
+-- a step of the program
+abbrev step : ℕ → ℕ → ℕ
+step n b = min (min (min (n * 10) 65535 + (b - 48)) 65535) 100
+
+kept : (n m b : ℕ) → n ≡ min 100 m → step n b ≡ min 100 (m * 10 + (b - 48))
+kept n m b e = omega arith
 
 pub returns : goal.returns
-returns c = c.loop-b.invariant ∙ ap (λ x. min 100 (numeral x)) (take_all c.loop-b.b-index c.args.s.now c.loop-b-test.false)
+returns c =
+    fold_from_yields_List _ step 0 _ c.fold.ensures.ran (YieldsList-from_slice c.args.s.now (cc)) (λ a x b q k. search (rules, tests))
+    ∙ fold_along step (λ n b. n * 10 + (b - 48)) (λ n m. n ≡ min 100 m) (λ n m b e. kept n m b e) 0 0 c.args.s.now (omega arith)
