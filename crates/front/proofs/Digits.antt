@@ -1,20 +1,11 @@
 -- The digits of a depth, and the depth of digits.
-use Rattle.std.proofs.Common.{◌≡◌, ℕ, ◌+◌, ◌*◌, ◌/◌, ◌%◌, ◌<◌, ◌≤◌, Bool, true, false, cond, ◌&&◌, eqb, leb, List, [], ◌∷◌, Some, None, refl, ap, ◌∙◌, inl, inr, arith}
-use Rattle.std.proofs.lemmas.Bool.{and_parts, and_from, leb-true, eqb-true, le-leb, cond-true}
-use Rattle.std.specs.Char.{is_ascii_digit}
+use Rattle.std.proofs.Common.{◌≡◌, ℕ, ◌+◌, ◌*◌, ◌/◌, ◌%◌, ◌<◌, ◌≤◌, List, [], ◌∷◌, Some, ap, ◌∙◌, inl, inr, arith}
+use Rattle.std.proofs.lemmas.Bool.Decides.{nat_tests}
 use Rattle.front.specs.Reading.{value, figures, reading_of}
 use Rattle.front.specs.Written.{Writes}
 
-is_digit : (d : ℕ) → d < 10 → is_ascii_digit (0x30 + d) ≡ true
-is_digit d h = and_from (leb 0x30 (0x30 + d)) (leb (0x30 + d) 0x39) (le-leb _ _ (omega arith)) (le-leb _ _ (omega arith))
-
 read_back : (a b c n : ℕ) → a < 10 → b < 10 → c < 10 → a * 100 + b * 10 + c ≡ n → figures (0x30 + a) (0x30 + b) 0x2E (0x30 + c) ≡ Some n
-read_back a b c n ha hb hc e =
-    let all : (is_ascii_digit (0x30 + a) && (is_ascii_digit (0x30 + b) && is_ascii_digit (0x30 + c))) ≡ true =
-    and_from _ _ (is_digit a ha) (and_from _ _ (is_digit b hb) (is_digit c hc))
-    in
-    let number : value (0x30 + a) * 100 + value (0x30 + b) * 10 + value (0x30 + c) ≡ n = omega arith in
-    cond-true _ _ _ all ∙ ap Some number
+read_back a b c n ha hb hc e = grind (arith, nat_tests)
 
 -- digits, a point and a digit
 record Figures (tens units point tenth n : ℕ) : Type 0 where
@@ -27,29 +18,17 @@ record Figures (tens units point tenth n : ℕ) : Type 0 where
   pub tenth_high : tenth ≤ 0x39
   pub number : value tens * 100 + value units * 10 + value tenth ≡ n
 
-shown : (b : Bool) (m n : ℕ) → cond b (Some m) None ≡ Some n → (b ≡ true) × (m ≡ n)
-shown true m n e = (refl, cc)
-shown false m n e = cc
-
 as_figures : (a b p c n : ℕ) → figures a b p c ≡ Some n → Figures a b p c n
-as_figures a b p c n e =
-    let s = shown (is_ascii_digit a && (is_ascii_digit b && (eqb p 0x2E && is_ascii_digit c))) (value a * 100 + value b * 10 + value c) n e in
-    let t = and_parts (is_ascii_digit a) (is_ascii_digit b && (eqb p 0x2E && is_ascii_digit c)) s.0 in
-    let u = and_parts (is_ascii_digit b) (eqb p 0x2E && is_ascii_digit c) t.1 in
-    let v = and_parts (eqb p 0x2E) (is_ascii_digit c) u.1 in
-    let da = and_parts (leb 0x30 a) (leb a 0x39) t.0 in
-    let db = and_parts (leb 0x30 b) (leb b 0x39) u.0 in
-    let dc = and_parts (leb 0x30 c) (leb c 0x39) v.1 in
-    record {
-      tens_low = leb-true _ _ da.0;
-      tens_high = leb-true _ _ da.1;
-      units_low = leb-true _ _ db.0;
-      units_high = leb-true _ _ db.1;
-      is_point = eqb-true _ _ v.0;
-      tenth_low = leb-true _ _ dc.0;
-      tenth_high = leb-true _ _ dc.1;
-      number = s.1;
-    }
+as_figures a b p c n e = record {
+  tens_low = grind (arith, nat_tests);
+  tens_high = grind (arith, nat_tests);
+  units_low = grind (arith, nat_tests);
+  units_high = grind (arith, nat_tests);
+  is_point = grind (arith, nat_tests);
+  tenth_low = grind (arith, nat_tests);
+  tenth_high = grind (arith, nat_tests);
+  number = grind (arith, nat_tests);
+}
 
 pub writes : (n : ℕ) (text : List ℕ) → reading_of text ≡ Some n → Writes n text
 writes n [] e = cc

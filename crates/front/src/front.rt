@@ -14,9 +14,7 @@ impl Front {
     pub fn new() -> Front
         ensures { result.«record» ≡ None }
     {
-        Front {
-            record: None,
-        }
+        Front { record: None }
     }
 
     // What it shows.

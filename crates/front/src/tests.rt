@@ -56,10 +56,7 @@ impl Panel for Tape {
 fn tested(left: u8) -> (Result<(), Torn>, Record, Record) {
     let mut front = Front::new();
     front.show(b"2.4");
-    let mut tape = Tape {
-        last: None,
-        left,
-    };
+    let mut tape = Tape { last: None, left };
     let answer = lamp_test(&mut front, &mut tape);
     (answer, tape.last, front.record())
 }
