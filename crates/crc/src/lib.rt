@@ -8,25 +8,23 @@ ghost use Rattle.std.specs.Prelude.{◌≡◌};
 pub fn check(bytes: &[u8]) -> u16
     ensures { result ≡ check_of bytes.now }
 {
-    0xffff - divide(bytes)
+    !divide(bytes)
 }
 
 // The remainder of the bytes, with a register that starts with ones.
 fn divide(bytes: &[u8]) -> u16
     ensures { result ≡ number (remainder (dividend bytes.now)) }
 {
-    let mut register = 0xffff;
-    for byte in bytes {
-        register = take_byte(register, *byte);
-    }
-    register
+    bytes
+        .iter()
+        .fold(0xffff, |register, byte| take_byte(register, *byte))
 }
 
 // A byte is added to the register's front, and its eight bits are divided out.
 fn take_byte(register: u16, byte: u8) -> u16
     ensures { result ≡ byte_in register byte }
 {
-    let mut front = register ^ (byte as u16 * 256);
+    let mut front = register ^ (u16::from(byte) << 8);
     for _ in 0..8u8 {
         front = step(front);
     }
@@ -37,10 +35,11 @@ fn take_byte(register: u16, byte: u8) -> u16
 fn step(register: u16) -> u16
     ensures { result ≡ stepped register }
 {
+    let shifted = register << 1;
     if register < 0x8000 {
-        register * 2
+        shifted
     } else {
-        ((register - 0x8000) * 2) ^ 0x1021
+        shifted ^ 0x1021
     }
 }
 

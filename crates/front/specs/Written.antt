@@ -1,6 +1,5 @@
 -- How a depth is written for the front.
-use Rattle.std.specs.Prelude.{◌≡◌, ℕ, ◌+◌, ◌/◌, ◌%◌, ◌<◌, ◌⊎◌, List, [], ◌∷◌}
-use Rattle.front.specs.declared.record.Record.TheVariants.{Reading}
+use Rattle.std.specs.Prelude.{◌≡◌, ℕ, ◌+◌, ◌/◌, ◌%◌, ◌<◌, ◌⊎◌, List, [], ◌∷◌, Some}
 use Rattle.front.specs.Reading.{reading_of}
 
 -- n tenths of a metre, with one digit before the point and with two
@@ -16,4 +15,4 @@ Writes n text = ((n < 100) × (text ≡ short n)) ⊎ ((n < 1000) × (text ≡ l
 -- the front reads n in just the texts that write n
 abbrev pub ReadsAsWritten : Type 0
 ReadsAsWritten =
-    (n : ℕ) (text : List ℕ) → (Writes n text → reading_of text ≡ Reading n) × (reading_of text ≡ Reading n → Writes n text)
+    (n : ℕ) (text : List ℕ) → (Writes n text → reading_of text ≡ Some n) × (reading_of text ≡ Some n → Writes n text)

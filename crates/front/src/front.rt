@@ -1,8 +1,7 @@
 ghost use Rattle.std.specs.Prelude.{◌≡◌};
-ghost use Rattle.front.specs.declared.record.Record.TheVariants.{Dashes};
 ghost use Rattle.front.specs.Reading.{reading_of};
 
-use crate::record::Record;
+use crate::record::{Record, reading_of};
 
 // What stands at the gate.
 #[derive(Drop)]
@@ -13,25 +12,22 @@ pub struct Front {
 impl Front {
     // A front that has read nothing yet.
     pub fn new() -> Front
-        ensures { result.«record» ≡ Dashes }
+        ensures { result.«record» ≡ None }
     {
-        Front {
-            record: Record::Dashes,
-        }
+        Front { record: None }
     }
 
     // What it shows.
     pub fn record(&self) -> Record
         ensures { result ≡ self.now.«record» }
     {
-        let Front { record } = self;
-        *record
+        self.record
     }
 
     // Shows what it reads in a text.
     pub fn show(&mut self, text: &[u8])
         ensures { self.new.«record» ≡ reading_of text.now }
     {
-        self.record = Record::of(text);
+        self.record = reading_of(text);
     }
 }

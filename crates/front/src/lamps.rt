@@ -17,7 +17,7 @@ impl<'a> LampTest<'a> {
         ensures lent { result.front.ghost_name ≡ front.entry.ghost_name }
     {
         let old = front.record;
-        front.record = Record::Reading(888);
+        front.record = Some(888);
         LampTest { front, old }
     }
 }

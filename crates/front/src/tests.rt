@@ -2,7 +2,7 @@ ghost use Rattle.std.specs.Prelude.{◌≡◌};
 
 use crate::front::Front;
 use crate::lamps::{Panel, lamp_test};
-use crate::record::Record;
+use crate::record::{Record, reading_of};
 
 #[test]
 fn readings(rt: HostRuntime) {
@@ -14,7 +14,7 @@ fn readings(rt: HostRuntime) {
         ("99.9", 999),
     ];
     for (text, tenths) in rows {
-        assert_eq!(rt; Record::of(text.as_bytes()), Record::Reading(tenths));
+        assert_eq!(rt; reading_of(text.as_bytes()), Some(tenths));
     }
 }
 
@@ -24,7 +24,7 @@ fn dashes(rt: HostRuntime) {
         "", "24", "2.", ".5", "2.45", "123.4", "2,4", "-2.4", "2.4 ", "1:.5", "2.4\0",
     ];
     for text in rows {
-        assert_eq!(rt; Record::of(text.as_bytes()), Record::Dashes);
+        assert_eq!(rt; reading_of(text.as_bytes()), None);
     }
 }
 
@@ -56,18 +56,15 @@ impl Panel for Tape {
 fn tested(left: u8) -> (Result<(), Torn>, Record, Record) {
     let mut front = Front::new();
     front.show(b"2.4");
-    let mut tape = Tape {
-        last: Record::Dashes,
-        left,
-    };
+    let mut tape = Tape { last: None, left };
     let answer = lamp_test(&mut front, &mut tape);
     (answer, tape.last, front.record())
 }
 
 #[test]
 fn lamp_tests(rt: HostRuntime) {
-    let now = Record::Reading(24);
-    assert_eq!(rt; tested(0), (Err(Torn), Record::Reading(888), now));
+    let now = Some(24);
+    assert_eq!(rt; tested(0), (Err(Torn), Some(888), now));
     assert_eq!(rt; tested(1), (Err(Torn), now, now));
     assert_eq!(rt; tested(2), (Ok(()), now, now));
 }

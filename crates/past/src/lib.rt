@@ -1,10 +1,7 @@
 // The past list: the newest entries of any kind, over places that the caller lends.
 #![tactic(auto)]
 
-ghost use Rattle.std.specs.Prelude.{◌≡◌, ◌<◌, [], ◌∷◌, ◌++◌, reverse, length, drop, Some, None, MatchOption, slice_index_or};
-ghost use Rattle.std.specs.Option.{option_map};
-ghost use Rattle.std.specs.List.{slice_get};
-ghost use Rattle.past.specs.Entries.{entries, spare, capacity, latest};
+ghost use Rattle.std.specs.Prelude.{◌≡◌, ◌<◌, ◌≤◌, [], ◌∷◌, length, take};
 
 #[cfg(test)]
 mod tests;
@@ -13,109 +10,75 @@ mod tests;
 #[derive(Drop)]
 pub struct Past<'a, T> {
     places: &'a mut [T],
-    // where the next entry goes, or the number of places if it goes to the first again
+    // the first so many places hold an entry
+    held: usize,
+    // the place behind the newest entry; those from there on are older than those before it
     next: usize,
-    // whether it has gone round
-    full: bool,
+    ghost room: { held ≤ length places.now },
+    ghost within: { next ≤ held },
+    ghost round: { held < length places.now → next ≡ held },
 }
 
 impl<'a, T: Drop> Past<'a, T> {
+    ghost use Rattle.std.specs.Option.{option_map};
+    ghost use Rattle.std.specs.List.{slice_get};
+    ghost use Rattle.past.specs.Entries.{holding, empty, added};
+
     // No entries yet.
     pub fn new(places: &'a mut [T]) -> Past<'a, T>
-        ensures none { entries result ≡ [] }
-        ensures spare { spare result ≡ places.old }
-        ensures size { capacity result ≡ length places.old }
-        ensures lent { result.places.ghost_name ≡ places.entry.ghost_name }
+        ensures { holding result ≡ empty places.entry }
     {
         Past {
-            places,
+            held: 0,
             next: 0,
-            full: false,
+            places,
         }
     }
 
     // The oldest goes if there is no place left for the new one.
     pub fn add(&mut self, x: T)
-        ensures after { entries self.new ≡ latest (capacity self.old) (x ∷ entries self.old) }
-        ensures spare { spare self.new ≡ drop 1 (spare self.old) }
-        ensures size { capacity self.new ≡ capacity self.old }
-        ensures lent { self.new.places.ghost_name ≡ self.old.places.ghost_name }
+        ensures { holding self.new ≡ added (x ∷ []) (holding self.old) }
     {
-        self.turn();
-        self.put(x);
-    }
-
-    // At the end it begins again at the first place.
-    fn turn(&mut self)
-        ensures same { entries self.new ≡ entries self.old }
-        ensures spare { spare self.new ≡ spare self.old }
-        ensures places { self.new.places ≡ self.old.places }
-        ensures next { 0 < capacity self.old → self.new.next < capacity self.old }
-    {
-        if self.next >= self.places.len() {
+        // at the end it begins again at the first place
+        if self.next == self.places.len() {
             self.next = 0;
-            self.full = true;
+        }
+        if self.next < self.places.len() {
+            self.places[self.next] = x;
+            self.next += 1;
+            self.held = self.held.max(self.next);
         }
     }
 
-    fn put(&mut self, x: T)
-        requires { 0 < capacity self.old → self.old.next < capacity self.old }
-        ensures after { entries self.new ≡ latest (capacity self.old) (x ∷ entries self.old) }
-        ensures spare { spare self.new ≡ drop 1 (spare self.old) }
-        ensures size { capacity self.new ≡ capacity self.old }
-        ensures lent { self.new.places.ghost_name ≡ self.old.places.ghost_name }
+    // The places that hold an entry.
+    fn taken(&self) -> &[T]
+        ensures { result.now ≡ take self.now.held self.now.places.now }
     {
-        let at = self.next;
-        if self.places.len() > 0 {
-            self.places[at] = x;
-            self.next = at + 1;
-        }
+        &self.places[..self.held]
     }
 
     // How many entries it holds.
     pub fn len(&self) -> usize
-        ensures { result ≡ length (entries self.now) }
+        ensures { result ≡ length (holding self.now).entries }
     {
-        let places = &*self.places;
-        if self.full {
-            places.len()
-        } else {
-            self.next.min(places.len())
-        }
+        self.taken().len()
     }
 
     // The i-th entry, from 0, the newest.
     pub fn newest(&self, i: usize) -> Option<&T>
-        ensures { option_map (λ x. x.now) result ≡ slice_get (entries self.now) i }
+        ensures { option_map (λ x. x.now) result ≡ slice_get (holding self.now).entries i }
     {
-        let place = self.place_of(i)?;
-        let places = &*self.places;
-        Some(&places[place])
-    }
-
-    // Where the i-th entry lies.
-    fn place_of(&self, i: usize) -> Option<usize>
-        ensures { MatchOption result (slice_get (entries self.now) i ≡ None) (λ k. (k < capacity self.now) × ((x : T) → x ≡ slice_index_or self.now.places.now k x → slice_get (entries self.now) i ≡ Some x)) }
-    {
-        let n = self.places.len();
-        let next = self.next.min(n);
-        if i < next {
-            return Some(next - 1 - i);
-        }
-        if self.full && i < n {
-            return Some(n - 1 - (i - next));
-        }
-        None
+        let (newer, older) = self.taken().split_at(self.next);
+        newer.iter().rev().chain(older.iter().rev()).nth(i)
     }
 }
 
 impl<'a, T: Copy> Past<'a, T> {
+    ghost use Rattle.past.specs.Entries.{holding, empty, added};
+
     // A new list to which entries are added one by one: it holds the newest of them.
     pub fn of(places: &'a mut [T], xs: &[T]) -> Past<'a, T>
-        ensures held { entries result ≡ latest (length places.old) (reverse xs.now) }
-        ensures spare { spare result ≡ drop (length xs.now) places.old }
-        ensures size { capacity result ≡ length places.old }
-        ensures lent { result.places.ghost_name ≡ places.entry.ghost_name }
+        ensures { holding result ≡ added xs.now (empty places.entry) }
     {
         let mut list = Past::new(places);
         list.add_all(xs);
@@ -124,10 +87,7 @@ impl<'a, T: Copy> Past<'a, T> {
 
     // Adds entries one by one, the last as the newest.
     pub fn add_all(&mut self, xs: &[T])
-        ensures after { entries self.new ≡ latest (capacity self.old) (reverse xs.now ++ entries self.old) }
-        ensures spare { spare self.new ≡ drop (length xs.now) (spare self.old) }
-        ensures size { capacity self.new ≡ capacity self.old }
-        ensures lent { self.new.places.ghost_name ≡ self.old.places.ghost_name }
+        ensures { holding self.new ≡ added xs.now (holding self.old) }
     {
         for x in xs {
             self.add(*x);

@@ -1,15 +1,10 @@
 use crate::Past;
+use std::array;
 use std::test::Fail;
 
 // The entries, newest first, and zeros behind them.
 fn held(list: &Past<'_, u8>) -> [u8; 4] {
-    let mut all = [0; 4];
-    for i in 0..4 {
-        if let Some(x) = list.newest(i) {
-            all[i] = *x;
-        }
-    }
-    all
+    array::from_fn(|i| list.newest(i).copied().unwrap_or(0))
 }
 
 #[test]

@@ -1,5 +1,5 @@
 -- How replies are put into words.
-use Rattle.std.specs.Prelude.{ℕ, cond, List, ◌∷◌, ◌++◌, Ok, Err, vec_items, codes, decimal, Result}
+use Rattle.std.specs.Prelude.{ℕ, cond, List, ◌∷◌, ◌++◌, Some, None, Ok, Err, vec_items, codes, decimal, Option, Result}
 use Rattle.label.specs.declared.refusal.Refusal.{Refusal}
 use Rattle.label.specs.Refusals.{case_of}
 use Rattle.carrier.specs.declared.answer.Answer.{Answer}
@@ -7,8 +7,6 @@ use Rattle.carrier.specs.Answers.{answer_case}
 use Rattle.script.specs.Digits.{printed}
 use Rattle.script.specs.declared.reply.Reply.{Reply}
 use Rattle.script.specs.declared.reply.Reply.TheVariants.{Call, Fits, Count, Written, Sent, Taken, Text, Front}
-use Rattle.front.specs.declared.record.Record.{Record}
-use Rattle.front.specs.declared.record.Record.TheVariants.{Reading, Dashes}
 
 abbrev pub refused_line : Refusal → List ℕ
 refused_line e = codes "refused " ++ decimal (case_of e).number
@@ -29,9 +27,9 @@ abbrev pub taken_line : Result Answer Refusal → List ℕ
 taken_line (Ok a) = codes "answer " ++ decimal (answer_case a).number
 taken_line (Err e) = refused_line e
 
-abbrev pub record_line : Record → List ℕ
-record_line (Reading tenths) = codes "reading " ++ decimal tenths
-record_line Dashes = codes "dashes"
+abbrev pub record_line : Option ℕ → List ℕ
+record_line (Some tenths) = codes "reading " ++ decimal tenths
+record_line None = codes "dashes"
 
 -- a buffer stands behind the words, parted from them by a space
 abbrev pub with_buffer : List ℕ → List ℕ → List ℕ

@@ -78,8 +78,8 @@ fn record_line(heap: Global, record: Record) -> Result<String, AllocError>
     ensures { IfOk result (λ s. string_bytes s ≡ record_line «record») }
 {
     match record {
-        Record::Reading(tenths) => format!(in heap; "reading {tenths}"),
-        Record::Dashes => String::from_str(heap, "dashes"),
+        Some(tenths) => format!(in heap; "reading {tenths}"),
+        None => String::from_str(heap, "dashes"),
     }
 }
 
