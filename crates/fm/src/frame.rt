@@ -3,10 +3,11 @@ ghost use Rattle.label.specs.Drafts.{matches};
 ghost use Rattle.carrier.specs.Aired.{outline, frame_of};
 ghost use Rattle.fm.specs.Frames.{last_segment, closed, segment, block_1, block_2, text_frame, announcing_frame, first_tag, second_tag, sent_tags, tag_bits, tags_frame, fm_writing};
 
+use crate::text::RETURN;
 use carrier::airing::Airing;
 use label::tag::{ItemBits, Tag};
 
-// The types of the groups that are sent.
+// The types of the groups that are sent: texts, announcements, and our tags.
 pub(crate) const TEXT: u8 = 2;
 
 pub(crate) const ANNOUNCEMENT: u8 = 3;
@@ -16,11 +17,11 @@ const TAGS: u8 = 11;
 // RT+, by the number under which applications are announced.
 pub(crate) const APPLICATION: u16 = 0x4BD7;
 
-// The number of the last text segment.
+// The number of the last text segment: there are up to 16, and room for a 0x0D behind a text below 64 bytes.
 pub(crate) fn last_segment(len: usize) -> usize
     ensures { result ≡ last_segment len }
 {
-    if len < 64 { len / 4 } else { 15 }
+    (len / 4).min(15)
 }
 
 // A byte of the closed text.
@@ -30,8 +31,8 @@ fn closed_byte(text: &[u8], at: usize) -> u8
 {
     match text.get(at) {
         Some(b) => *b,
-        None if at == text.len() => 0x0D,
-        None => 0x20,
+        None if at == text.len() => RETURN,
+        None => b' ',
     }
 }
 
@@ -49,8 +50,8 @@ fn segment(text: &[u8], number: usize) -> [u8; 4]
     ]
 }
 
-// A frame of version A: its service, group type, own bits, and the bytes of blocks 3 and 4.
-fn blocks(service: u16, group: u8, own: u8, bytes: [u8; 4]) -> [u8; 8]
+// A frame of version A, by its service, group type, own bits and the bytes of blocks 3 and 4.
+fn join(service: u16, group: u8, own: u8, bytes: [u8; 4]) -> [u8; 8]
     requires { group < 16 }
     ensures { result ≡ block_1 service ++ block_2 group own ++ bytes }
 {
@@ -66,7 +67,7 @@ fn text_segment(airing: &Airing<'_>, number: usize) -> [u8; 8]
     ensures { result ≡ text_frame airing.now.text.now airing.now.toggle airing.now.service number }
 {
     let own = u8::from(airing.toggle) * 16 + number as u8;
-    blocks(airing.service, TEXT, own, segment(airing.text, number))
+    join(airing.service, TEXT, own, segment(airing.text, number))
 }
 
 // The announcement of the tag group, 11A.
@@ -74,7 +75,7 @@ fn announcing(service: u16) -> [u8; 8]
     ensures { result ≡ announcing_frame service }
 {
     let [high, low] = APPLICATION.to_be_bytes();
-    blocks(service, ANNOUNCEMENT, TAGS * 2, [0, 0, high, low])
+    join(service, ANNOUNCEMENT, TAGS * 2, [0, 0, high, low])
 }
 
 // The two tags as they are sent.
@@ -102,12 +103,12 @@ fn pack(item: ItemBits, t: Tag, u: Tag) -> u64
 }
 
 // The tag group's frame.
-fn tags_group(item: ItemBits, tags: &[Tag], service: u16) -> [u8; 8]
-    ensures { result ≡ tags_frame item tags.now service }
+fn tags_group(airing: &Airing<'_>) -> [u8; 8]
+    ensures { result ≡ tags_frame airing.now.item (outline airing.now).tags airing.now.service }
 {
-    let (t, u) = pair(tags);
-    let [_, _, _, own, p, q, r, s] = pack(item, t, u).to_be_bytes();
-    blocks(service, TAGS, own, [p, q, r, s])
+    let (t, u) = pair(airing.label.tags());
+    let [_, _, _, own, p, q, r, s] = pack(airing.item, t, u).to_be_bytes();
+    join(airing.service, TAGS, own, [p, q, r, s])
 }
 
 // A label's frame: text segments, then the announcement, then the tag group.
@@ -124,6 +125,6 @@ pub(crate) fn frame(airing: &Airing<'_>, number: usize) -> [u8; 8]
     } else if number == last + 1 {
         announcing(airing.service)
     } else {
-        tags_group(airing.item, airing.label.tags(), airing.service)
+        tags_group(airing)
     }
 }
