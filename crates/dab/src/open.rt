@@ -39,6 +39,7 @@ fn is_checked(bytes: &[u8], high: u8, low: u8) -> bool
 }
 
 // Prefix and data of a frame, if its length and its check are right.
+#[tactic(auto, unfolding(crate::specs::Taking::step_by))]
 pub(crate) fn open(frame: &[u8]) -> Result<Opened<'_>, Refusal>
     ensures { (s : State) → dab_step s frame.now ≡ on_opened s result }
 {
