@@ -17,7 +17,7 @@ const NO_TAGS: [Tag; 1] = [Tag {
 
 // The tags of a command: one to four.
 #[derive(Clone, Copy)]
-struct Sent<'a> {
+struct SentTags<'a> {
     tags: &'a [Tag],
     ghost some: { 1 ≤ length tags.now },
     ghost few: { length tags.now ≤ 4 },
@@ -29,12 +29,12 @@ fn tag_bytes(tag: Tag) -> [u8; 3]
     [tag.class, tag.start, tag.extent]
 }
 
-impl<'a> Sent<'a> {
-    fn of(tags: &'a [Tag]) -> Sent<'a>
+impl<'a> SentTags<'a> {
+    fn of(tags: &'a [Tag]) -> SentTags<'a>
         requires { length tags.now ≤ 4 }
         ensures { result.tags.now ≡ sent_tags tags.now }
     {
-        Sent {
+        SentTags {
             tags: if tags.is_empty() { &NO_TAGS } else { tags },
         }
     }
@@ -45,7 +45,8 @@ impl<'a> Sent<'a> {
         ensures { result.items ≡ command_data item self.now.tags.now }
     {
         let mut bytes = ArrayVec::new();
-        bytes.push(Head::new(item, self.tags.len()).byte);
+        let Head(head) = Head::new(item, self.tags.len());
+        bytes.push(head);
         for tag in self.tags {
             bytes.try_extend_from_slice(&tag_bytes(*tag)).unwrap();
         }
@@ -58,7 +59,7 @@ pub(crate) fn command_frame(item: ItemBits, tags: &[Tag], toggle: bool) -> Array
     requires { length tags.now ≤ 4 }
     ensures { result.items ≡ framed (command_body item (sent_tags tags.now) toggle) }
 {
-    let bytes = Sent::of(tags).data(item);
+    let bytes = SentTags::of(tags).data(item);
     let load = Load { bytes: &bytes };
     frame(Prefix::of_command(toggle, &load), &load)
 }

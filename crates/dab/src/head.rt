@@ -10,43 +10,39 @@ const ITEM_RUNNING: u8 = 4;
 
 // The first data byte of a command.
 #[derive(Clone, Copy)]
-pub(crate) struct Head {
-    pub(crate) byte: u8,
-}
+pub(crate) struct Head(pub(crate) u8);
 
 impl Head {
     // The head of a command with so many tags.
     pub(crate) fn new(item: ItemBits, tags: usize) -> Head
         requires { (1 ≤ tags) × (tags ≤ 4) }
-        ensures { result.byte ≡ tags_first item tags }
+        ensures { result.0 ≡ tags_first item tags }
     {
         let toggle = item.toggle as u8 * ITEM_TOGGLE;
         let running = item.running as u8 * ITEM_RUNNING;
-        Head {
-            byte: toggle + running + (tags as u8 - 1),
-        }
+        Head(toggle + running + (tags as u8 - 1))
     }
 
     // The command is one with tags.
     pub(crate) fn has_tags(self) -> bool
-        ensures { result ≡ (high_four self.byte == 0) }
+        ensures { result ≡ (high_four self.0 == 0) }
     {
-        self.byte / 16 == 0
+        self.0 / 16 == 0
     }
 
     pub(crate) fn item(self) -> ItemBits
-        ensures { result ≡ item_bits self.byte }
+        ensures { result ≡ item_bits self.0 }
     {
         ItemBits {
-            toggle: self.byte / ITEM_TOGGLE % 2 == 1,
-            running: self.byte / ITEM_RUNNING % 2 == 1,
+            toggle: self.0 / ITEM_TOGGLE % 2 == 1,
+            running: self.0 / ITEM_RUNNING % 2 == 1,
         }
     }
 
     pub(crate) fn tag_count(self) -> usize
-        ensures value { result ≡ tag_count self.byte }
+        ensures value { result ≡ tag_count self.0 }
         ensures few { result ≤ 4 }
     {
-        (self.byte % 4) as usize + 1
+        (self.0 % 4) as usize + 1
     }
 }

@@ -19,7 +19,7 @@ pub(crate) struct Opened<'a> {
 impl Opened<'_> {
     // A command's tags are all in this frame, and nothing else is.
     pub(crate) fn is_whole_command(&self, head: Head) -> bool
-        ensures { result ≡ whole_command self.now.prefix.first head.byte (length self.now.load.bytes.now) }
+        ensures { result ≡ whole_command self.now.prefix.first head.0 (length self.now.load.bytes.now) }
     {
         self.prefix.is_whole() && self.load.bytes.len() == 1 + 3 * head.tag_count()
     }
@@ -39,6 +39,7 @@ fn is_checked(bytes: &[u8], high: u8, low: u8) -> bool
 }
 
 // Prefix and data of a frame, if its length and its check are right.
+#[tactic(auto, unfolding(crate::specs::Taking::step_by))]
 pub(crate) fn open(frame: &[u8]) -> Result<Opened<'_>, Refusal>
     ensures { (s : State) → dab_step s frame.now ≡ on_opened s result }
 {

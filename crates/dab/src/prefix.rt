@@ -46,10 +46,7 @@ impl Prefix {
         let first = (number == 0) as u8;
         let last = (number == last) as u8;
         Prefix {
-            first: toggle as u8 * TOGGLE
-                + first * FIRST
-                + last * LAST
-                + (load.bytes.len() as u8 - 1),
+            first: toggle as u8 * TOGGLE + first * FIRST + last * LAST + load.len_field(),
             second: number as u8 * 16,
         }
     }
@@ -61,7 +58,7 @@ impl Prefix {
     {
         Prefix {
             first: toggle as u8 * TOGGLE + FIRST + LAST + COMMAND + DL_PLUS,
-            second: toggle as u8 * TOGGLE + (load.bytes.len() as u8 - 1),
+            second: toggle as u8 * TOGGLE + load.len_field(),
         }
     }
 

@@ -1,4 +1,4 @@
-ghost use Rattle.std.specs.Prelude.{◌≡◌, ◌*◌, ◌≤◌, length};
+ghost use Rattle.std.specs.Prelude.{◌≡◌, ◌/◌, ◌≤◌, length};
 ghost use Rattle.dab.specs.Taking.{tag_in, tags_in};
 
 use arrayvec::ArrayVec;
@@ -16,11 +16,10 @@ fn tag_in(bytes: &[u8; 3]) -> Tag
     }
 }
 
-// So many tags, one after another.
-pub(crate) fn tags_in(bytes: &[u8], count: usize) -> ArrayVec<Tag, 4>
-    requires few { count ≤ 4 }
-    requires whole { length bytes.now ≡ 3 * count }
-    ensures { result.items ≡ tags_in count bytes.now }
+// Up to four tags, one after another.
+pub(crate) fn tags_in(bytes: &[u8]) -> ArrayVec<Tag, 4>
+    requires { length bytes.now ≤ 12 }
+    ensures { result.items ≡ tags_in (length bytes.now / 3) bytes.now }
 {
     let mut tags = ArrayVec::new();
     for three in bytes.as_chunks().0 {

@@ -31,10 +31,8 @@ impl Dab {
             data: ArrayVec::try_from(load.bytes).unwrap(),
             last: prefix.is_last(),
         };
-        Ok(
-            self.taking
-                .on_text(prefix.text_toggle(), Piece { number, segment }),
-        )
+        let piece = Piece { number, segment };
+        Ok(self.taking.on_text(prefix.text_toggle(), piece))
     }
 
     // Takes a command of DL Plus.
@@ -46,9 +44,7 @@ impl Dab {
         if prefix.command_len() != load.bytes.len() {
             return Err(Refusal::WrongLength);
         }
-        let head = Head {
-            byte: load.bytes[0],
-        };
+        let head = Head(load.bytes[0]);
         if !head.has_tags() {
             return Ok(Answer::PassedOver);
         }
@@ -57,7 +53,7 @@ impl Dab {
         }
         let arrived = Arrived {
             item: head.item(),
-            tags: tags_in(&load.bytes[1..], head.tag_count()),
+            tags: tags_in(&load.bytes[1..]),
         };
         self.taking.on_tags(Some(prefix.command_toggle()), arrived)
     }
