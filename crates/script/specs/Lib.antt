@@ -1,3 +1,4 @@
-pub mod Digits
+pub mod Asking
 pub mod Bytes
+pub mod Digits
 pub mod Lines

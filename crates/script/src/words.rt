@@ -84,6 +84,16 @@ pub fn half_word(word: &str) -> Result<u16, Fault>
     Ok(number_to(65535, word)? as u16)
 }
 
+// The largest buffer that a call is handed.
+pub const LARGEST: u32 = 4096;
+
+// The size of a buffer.
+pub fn size(word: &str) -> Result<usize, Fault>
+    ensures { result ≡ ok_or (number_to 4096 word.now) Wrong }
+{
+    Ok(number_to(LARGEST, word)? as usize)
+}
+
 // 0 or 1.
 pub fn flag(word: &str) -> Result<bool, Fault>
     ensures { result ≡ ok_or (flag_of word.now) Wrong }

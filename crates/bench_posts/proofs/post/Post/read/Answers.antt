@@ -3,7 +3,7 @@ use Rattle.std.proofs.lemmas.List.{with_items_is}
 use Rattle.label.specs.Drafts.{done, left}
 use Rattle.agreement.specs.Reading.{read_refusal}
 use Rattle.script.specs.Lines.{text_line, with_buffer}
-use Rattle.bench_posts.specs.Held.{fresh}
+use Rattle.bench.specs.Held.{fresh}
 use Rattle.bench_posts.specs.Posts.{post_of}
 use Rattle.bench_posts.proofs.post.Post.read.Goals as goal
 

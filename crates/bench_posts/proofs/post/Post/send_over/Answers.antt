@@ -5,7 +5,7 @@ use Rattle.label.specs.Label.{label_of}
 use Rattle.agreement.specs.Station.{send_refusal}
 use Rattle.station.specs.Sending.{places}
 use Rattle.script.specs.Lines.{sent_line, with_buffer}
-use Rattle.bench_posts.specs.Held.{fresh}
+use Rattle.bench.specs.Held.{fresh}
 use Rattle.bench_posts.specs.Posts.{post_of}
 use Rattle.bench_posts.proofs.post.Post.send_over.Goals as goal
 
