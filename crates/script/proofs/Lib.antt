@@ -1,2 +1,2 @@
+mod Hex
 mod Numbers
-mod Pairs

@@ -1,4 +1,4 @@
-ghost use Rattle.std.specs.Prelude.{◌≡◌, ◌↔◌, IfOk, IsNone, IsTrue};
+ghost use Rattle.std.specs.Prelude.{◌≡◌, ◌↔◌, IfOk, IsNone, IsTrue, OnErr};
 ghost use Rattle.script.specs.Asking.{without_return, AsksNothing};
 
 use crate::fault::Fault;
@@ -40,29 +40,38 @@ fn words_of(heap: Global, line: &[u8]) -> Result<Vec<&str>, Fault> {
 
 // What carries out commands that are put in words.
 pub trait Console {
-    // Carries out the command that these words say.
-    fn obey_words(&mut self, heap: Global, words: &[&str]) -> Result<Reply, Fault>;
+    // what the console holds
+    ghost State: { Type 0 };
 
-    // Carries out the command of a line.
-    final fn obey_line(&mut self, heap: Global, line: &[u8]) -> Result<Reply, Fault> {
-        let words = words_of(heap, line)?;
-        self.obey_words(heap, words.as_slice())
-    }
+    ghost state: { Self → State };
+
+    // Carries out the command that these words say. A fault changes nothing.
+    fn obey_words(&mut self, heap: Global, words: &[&str]) -> Result<Reply, Fault>
+        ensures { OnErr result (state self.new ≡ state self.old) };
 
     // The answer to a line, both without their ends; no answer to a line that asks for nothing.
     final fn answer(&mut self, heap: Global, line: &[u8]) -> Result<Option<String>, AllocError>
-        ensures { IfOk result (λ a. IsNone a ↔ AsksNothing (without_return line.now)) }
+        ensures asked { IfOk result (λ a. IsNone a ↔ AsksNothing (without_return line.now)) }
+        ensures still { AsksNothing (without_return line.now) → Self.state self.new ≡ Self.state self.old }
     {
         let line = without_return(line);
         if is_skipped(line) {
             return Ok(None);
         }
-        match self.obey_line(heap, line) {
+        match obey_line(self, heap, line) {
             Ok(reply) => Ok(Some(reply.line(heap)?)),
             Err(Fault::Wrong) => Ok(Some(String::from_str(heap, "error")?)),
             Err(Fault::Memory) => Err(AllocError),
         }
     }
+}
+
+// Carries out the command of a line.
+fn obey_line<C: Console>(console: &mut C, heap: Global, line: &[u8]) -> Result<Reply, Fault>
+    ensures { OnErr result (C.state console.new ≡ C.state console.old) }
+{
+    let words = words_of(heap, line)?;
+    console.obey_words(heap, words.as_slice())
 }
 
 // Answers each line of the input by a line of the output, until the input ends.

@@ -3,6 +3,5 @@
 
 pub mod console;
 pub mod fault;
-mod hex;
 pub mod reply;
 pub mod words;
