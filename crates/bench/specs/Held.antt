@@ -1,5 +1,5 @@
 -- The label on the bench, and the buffers that calls are handed.
-use Rattle.std.specs.Prelude.{◌≡◌, ℕ, List, Some, None, replicate, vec_items, Option}
+use Rattle.std.specs.Prelude.{ℕ, List, Some, None, replicate, vec_items, Option}
 use Rattle.std.specs.Global.{Vec}
 use Rattle.label.specs.Drafts.{draft_outline, sealed_outline}
 use Rattle.label.specs.Label.{Outline}

@@ -8,7 +8,8 @@ use Rattle.carrier.specs.Writing.{place, write_refusal}
 use Rattle.script.specs.declared.fault.Fault.{Fault}
 use Rattle.script.specs.declared.fault.Fault.TheVariants.{Wrong, Memory}
 use Rattle.script.specs.declared.reply.Reply.{Reply}
-use Rattle.script.specs.declared.reply.Reply.TheVariants.{Call, Fits, Count, Written}
+use Rattle.script.specs.declared.reply.Reply.TheVariants.{Call, Fits, Count}
+use Rattle.script.specs.Shown.{Shows}
 use Rattle.bench.specs.Carriers.{writing_of, no_item}
 use Rattle.bench.specs.Held.{Held, nothing, drafted, closed, OfSealed, fresh}
 use Rattle.bench.specs.declared.carriers.Named.{Named}
@@ -75,12 +76,7 @@ buffer_after w o text =
     (place ((writing_of w.carrier).frame (label_of o no_item text) w.frame.toggle w.frame.service w.frame.number) ++ drop 21 (fresh w.size))
     (fresh w.size)
 
--- the reply says what came of the call, and shows the buffer whole
-abbrev pub Shows : Reply → Result (Unit {0}) Refusal → List ℕ → Type 0
-Shows (Written x v) call bytes = (x ≡ call) × (vec_items v ≡ bytes)
-Shows _ call bytes = ⊥
-
--- the reply of a frame that is written over a text; only memory can fail
+-- the reply of a frame that is written over a text shows the buffer whole; only memory can fail
 abbrev pub Writes : Writing → Outline → List ℕ → Result Reply Fault → Type 0
 Writes w o text r = MatchResult r (λ x. Shows x (done (why_not_written w o text) tt) (buffer_after w o text)) (λ e. e ≡ Memory)
 

@@ -35,12 +35,7 @@ const NO_ITEM: ItemBits = ItemBits {
 
 impl Wanted {
     // Writes this frame with both item bits 0.
-    fn write<C: Carrier>(
-        self,
-        label: &Sealed,
-        text: &[u8],
-        space: &mut [u8],
-    ) -> Result<(), Refusal>
+    fn write<C: Carrier>(self, label: &Sealed, text: &[u8], space: &mut [u8]) -> Result<(), Refusal>
         ensures reply { result ≡ done (write_refusal C.meaning.writing (sealed_outline label.now) text.now self.number (length space.old)) tt }
         ensures space { space.new ≡ left (write_refusal C.meaning.writing (sealed_outline label.now) text.now self.number (length space.old)) (place (C.meaning.writing.frame (label_of (sealed_outline label.now) no_item text.now) self.toggle self.service self.number) ++ drop 21 space.old) space.old }
     {
@@ -67,7 +62,7 @@ impl Named {
         }
     }
 
-    // Each call is switched on the name: no value stands for a type that has only calls.
+    // Each call is switched on the name: what it calls has no value that could be picked once.
     pub fn fits(self, label: &Sealed) -> bool
         ensures { result ≡ (writing_of self).fits (sealed_outline label.now) }
     {

@@ -17,10 +17,7 @@ impl Current {
     ghost use Rattle.bench.specs.Held.{held, OfSealed};
 
     // The sealed label, and the text over which it goes: its own, unless another is given.
-    pub fn sealed<'a>(
-        &'a self,
-        other: &'a Option<Vec<u8>>,
-    ) -> Result<(&'a Sealed, &'a [u8]), Fault>
+    pub fn sealed<'a>(&'a self, other: &'a Option<Vec<u8>>) -> Result<(&'a Sealed, &'a [u8]), Fault>
         ensures { MatchResult result (λ p. OfSealed (held self.now) other.now (λ o text. (sealed_outline p.0.now ≡ o) × (p.1.now ≡ text)) ⊥) (λ e. (e ≡ Wrong) × OfSealed (held self.now) other.now (λ o text. ⊥) (Unit {0})) }
     {
         let Current::Closed(label, own) = self else {

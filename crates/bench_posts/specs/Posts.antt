@@ -11,7 +11,7 @@ use Rattle.agreement.specs.Station.{Vars, new_vars, call_refusal, call_step, sen
 use Rattle.station.specs.Sending.{places}
 use Rattle.station.specs.Vars.{vars}
 use Rattle.display.specs.View.{view}
-use Rattle.script.specs.Lines.{sent_line, text_line, with_buffer, reply_line}
+use Rattle.script.specs.Shown.{ShowsSent, ShowsText}
 use Rattle.script.specs.declared.fault.Fault.{Fault}
 use Rattle.script.specs.declared.fault.Fault.TheVariants.{Wrong, Memory}
 use Rattle.script.specs.declared.reply.Reply.{Reply}
@@ -57,7 +57,7 @@ vars_sent m p o text size = left (why_not_sent m o text size) (record { toggle =
 abbrev pub Sends : {S : Type 0} → Meaning S → Outline → List ℕ → ℕ → PostState S → Result Reply Fault → PostState S → Type 0
 Sends m o text size p r q =
     MatchResult r
-    (λ x. (reply_line x ≡ with_buffer (sent_line (done (why_not_sent m o text size) (m.writing.count o))) (buffer_sent m p o text size)) × (q ≡ with_vars p (vars_sent m p o text size)))
+    (λ x. ShowsSent x (done (why_not_sent m o text size) (m.writing.count o)) (buffer_sent m p o text size) × (q ≡ with_vars p (vars_sent m p o text size)))
     (λ e. (e ≡ Memory) × (q ≡ p))
 
 -- send: of a sealed label alone
@@ -72,7 +72,7 @@ abbrev pub buffer_read : {S : Type 0} → PostState S → ℕ → ℕ → List �
 buffer_read p c size = left (why_not_read p c size) (p.shown.table.row c ++ drop (length (p.shown.table.row c)) (fresh size)) (fresh size)
 
 abbrev pub Reads : {S : Type 0} → PostState S → ℕ → ℕ → Result Reply Fault → Type 0
-Reads p c size r = MatchResult r (λ x. reply_line x ≡ with_buffer (text_line (done (why_not_read p c size) (length (p.shown.table.row c)))) (buffer_read p c size)) (λ e. e ≡ Memory)
+Reads p c size r = MatchResult r (λ x. ShowsText x (done (why_not_read p c size) (length (p.shown.table.row c))) (buffer_read p c size)) (λ e. e ≡ Memory)
 
 -- what an order answers, with the label that is on the bench, and what the post is after it
 abbrev pub PostObeys : {S : Type 0} → Meaning S → Held → Order → PostState S → Result Reply Fault → PostState S → Type 0

@@ -37,7 +37,7 @@ pub enum Command {
     At(Named, Order),
 }
 
-fn parse_send(size: &str, text: Option<Vec<u8>>) -> Result<Order, Fault> {
+fn send(size: &str, text: Option<Vec<u8>>) -> Result<Order, Fault> {
     let size = size_of(size)?;
     Ok(Order::Send(Sending { size, text }))
 }
@@ -46,31 +46,22 @@ fn at(carrier: &str, order: Order) -> Result<Command, Fault> {
     Ok(Command::At(Named::parse(carrier)?, order))
 }
 
-// The call of a station or a display that these words say, if they say one.
-fn parse_order(heap: Global, words: &[&str]) -> Result<Option<Command>, Fault> {
-    let command = match words {
-        ["station", carrier, service] => at(carrier, Order::Station(half_word(service)?))?,
-        ["start", carrier] => at(carrier, Order::Start)?,
-        ["end", carrier] => at(carrier, Order::End)?,
-        ["send", carrier, size] => at(carrier, parse_send(size, None)?)?,
-        ["send", carrier, size, text] => {
-            at(carrier, parse_send(size, Some(bytes(heap, text)?))?)?
-        }
-        ["take", carrier, frame] => at(carrier, Order::Take(bytes(heap, frame)?))?,
-        ["read", carrier, class, size] => at(carrier, Order::Read(byte(class)?, size_of(size)?))?,
-        ["retune", carrier] => at(carrier, Order::Retune)?,
-        ["front", carrier] => at(carrier, Order::Front)?,
-        _ => return Ok(None),
-    };
-    Ok(Some(command))
-}
-
 impl Command {
-    // The command that these words say.
+    // The command that these words say: a call of a station or a display, or else one about a label.
     pub fn parse(heap: Global, words: &[&str]) -> Result<Command, Fault> {
-        match parse_order(heap, words)? {
-            Some(command) => Ok(command),
-            None => Ok(Command::Label(bench::command::Command::parse(heap, words)?)),
+        match words {
+            ["station", carrier, service] => at(carrier, Order::Station(half_word(service)?)),
+            ["start", carrier] => at(carrier, Order::Start),
+            ["end", carrier] => at(carrier, Order::End),
+            ["send", carrier, size] => at(carrier, send(size, None)?),
+            ["send", carrier, size, text] => at(carrier, send(size, Some(bytes(heap, text)?))?),
+            ["take", carrier, frame] => at(carrier, Order::Take(bytes(heap, frame)?)),
+            ["read", carrier, class, size] => {
+                at(carrier, Order::Read(byte(class)?, size_of(size)?))
+            }
+            ["retune", carrier] => at(carrier, Order::Retune),
+            ["front", carrier] => at(carrier, Order::Front),
+            _ => Ok(Command::Label(bench::command::Command::parse(heap, words)?)),
         }
     }
 }

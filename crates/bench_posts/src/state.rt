@@ -44,6 +44,12 @@ impl Bench {
 }
 
 impl Console for Bench {
+    ghost use Rattle.bench_posts.specs.State.{BenchState};
+
+    ghost State = { BenchState };
+
+    ghost state = { bench_of };
+
     fn obey_words(&mut self, heap: Global, words: &[&str]) -> Result<Reply, Fault> {
         let command = Command::parse(heap, words)?;
         self.obey(heap, command)

@@ -6,10 +6,5 @@ use script::console::serve;
 use std::io;
 
 fn main(rt: HostRuntime) -> io::Result<()> {
-    serve(
-        &mut Bench::new(),
-        rt.alloc(),
-        rt.stdin(),
-        &mut rt.stdout(),
-    )
+    serve(&mut Bench::new(), rt.alloc(), rt.stdin(), &mut rt.stdout())
 }

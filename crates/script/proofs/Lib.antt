@@ -1,2 +1,3 @@
 mod Hex
 mod Numbers
+pub mod Shown

@@ -8,7 +8,7 @@ use Rattle.std.specs.Option.{ok_or}
 use Rattle.std.specs.Result.{result_ok, OkIff, IsErrAnd}
 use Rattle.script.specs.declared.fault.Fault.{Fault}
 use Rattle.script.specs.declared.fault.Fault.TheVariants.{Wrong}
-use Rattle.std.specs.Str.Parse.{AllDigits, IsNumeral, digits_value_after, digits_value, ParsesUnsigned, without_leading_plus}
+use Rattle.std.specs.Str.Parse.{AllDigits, IsNumeral, digits_value_after, digits_value, ParsesUnsigned}
 use Rattle.script.specs.Digits.{and_then, digit_in, written, fitting, number_in}
 
 digit_same : (base b : ℕ) → base ≤ 16 → digit_in base b ≡ cond (nat_lt (digit_value b) base) (Some (digit_value b)) None

@@ -2,3 +2,4 @@ pub mod Asking
 pub mod Bytes
 pub mod Digits
 pub mod Lines
+pub mod Shown

@@ -31,6 +31,7 @@ impl<T: Drop> From<AllocFailed<T>> for Fault {
 
 impl From<FromHexError> for Fault {
     ghost use Rattle.script.specs.Bytes.{fault_of};
+
     ghost from_gives = { λ e r. r ≡ fault_of e };
 
     fn from(e: FromHexError) -> Fault {

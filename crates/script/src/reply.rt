@@ -111,10 +111,22 @@ impl Reply {
             Reply::Fits(true) => String::from_str(heap, "yes"),
             Reply::Fits(false) => String::from_str(heap, "no"),
             Reply::Count(count) => format!(in heap; "{count}"),
-            Reply::Written(call, space) => with_buffer(heap, call_line(heap, *call)?, space.as_slice()),
-            Reply::Sent(call, space) => with_buffer(heap, sent_line(heap, *call)?, space.as_slice()),
+            Reply::Written(call, space) => with_buffer(
+                heap,
+                call_line(heap, *call)?,
+                space.as_slice(),
+            ),
+            Reply::Sent(call, space) => with_buffer(
+                heap,
+                sent_line(heap, *call)?,
+                space.as_slice(),
+            ),
             Reply::Taken(call) => taken_line(heap, *call),
-            Reply::Text(call, space) => with_buffer(heap, text_line(heap, *call)?, space.as_slice()),
+            Reply::Text(call, space) => with_buffer(
+                heap,
+                text_line(heap, *call)?,
+                space.as_slice(),
+            ),
             Reply::Front(record) => record_line(heap, *record),
         }
     }

@@ -1,4 +1,3 @@
-use Rattle.std.proofs.Common.{sym, ◌∙◌}
 use Rattle.script.specs.Digits.{number_to}
 use Rattle.script.proofs.Numbers.{flag_err}
 use Rattle.script.proofs.words.flag.Goals as goal
