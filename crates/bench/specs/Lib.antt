@@ -1,4 +1,3 @@
 pub mod Carriers
-pub mod Digits
-pub mod Lines
+pub mod Held
 pub mod State

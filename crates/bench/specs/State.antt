@@ -1,33 +1,21 @@
--- What the console holds, and what its commands answer and leave behind.
-use Rattle.std.specs.Prelude.{◌≡◌, ℕ, cond, List, ◌++◌, length, drop, replicate, Some, None, Ok, Err, vec_items, Option, Result, MatchResult}
+-- What the console answers to a command about a label, and what it holds after it.
+use Rattle.std.specs.Prelude.{◌≡◌, ℕ, cond, List, ◌++◌, length, drop, Ok, Err, vec_items, Option, Result, MatchResult}
 use Rattle.label.specs.declared.tag.Tag.{Tag}
-use Rattle.label.specs.Drafts.{draft_outline, sealed_outline, opening_refusal, untagged, tagging_refusal, tagged, done, left}
+use Rattle.label.specs.Drafts.{opening_refusal, untagged, tagging_refusal, tagged, done, left}
 use Rattle.label.specs.Label.{Outline, label_of}
 use Rattle.label.specs.declared.refusal.Refusal.{Refusal}
 use Rattle.carrier.specs.Writing.{place, write_refusal}
+use Rattle.script.specs.declared.fault.Fault.{Fault}
+use Rattle.script.specs.declared.fault.Fault.TheVariants.{Wrong, Memory}
+use Rattle.script.specs.declared.reply.Reply.{Reply}
+use Rattle.script.specs.declared.reply.Reply.TheVariants.{Call, Fits, Count}
+use Rattle.script.specs.Shown.{Shows}
 use Rattle.bench.specs.Carriers.{writing_of, no_item}
+use Rattle.bench.specs.Held.{Held, nothing, drafted, closed, OfSealed, fresh}
 use Rattle.bench.specs.declared.carriers.Named.{Named}
-use Rattle.bench.specs.declared.carriers.Wanted.{Wanted}
 use Rattle.bench.specs.declared.command.Command.{Command}
 use Rattle.bench.specs.declared.command.Command.TheVariants.{Open, Tag as AddTag, Seal, Reopen, Fits as AskFits, Count as AskCount, Write}
 use Rattle.bench.specs.declared.command.Writing.{Writing}
-use Rattle.bench.specs.declared.fault.Fault.{Fault}
-use Rattle.bench.specs.declared.fault.Fault.TheVariants.{Wrong, Memory}
-use Rattle.bench.specs.declared.reply.Reply.{Reply}
-use Rattle.bench.specs.declared.reply.Reply.TheVariants.{Call, Fits, Count, Written}
-use Rattle.bench.specs.declared.state.Current.{Current}
-use Rattle.bench.specs.declared.state.Current.TheVariants.{Nothing, Drafted, Closed}
-
--- the label on the bench: none, a draft or a sealed label, with its text
-pub data Held : Type 0 where
-  nothing : Held
-  drafted : Outline → List ℕ → Held
-  closed : Outline → List ℕ → Held
-
-abbrev pub held : Current → Held
-held Nothing = nothing
-held (Drafted d t) = drafted (draft_outline d) (vec_items t)
-held (Closed s t) = closed (sealed_outline s) (vec_items t)
 
 -- open: a draft over the text, or the label as it was
 abbrev pub opened : Held → List ℕ → Held
@@ -77,41 +65,24 @@ count_reply nothing c = Err Wrong
 count_reply (drafted o text) c = Err Wrong
 count_reply (closed o text) c = cond ((writing_of c).fits o) (Ok (Count ((writing_of c).count o))) (Err Wrong)
 
--- a buffer as a call is handed it: 0xEE throughout
-abbrev pub fresh : ℕ → List ℕ
-fresh n = replicate n 0xEE
-
 -- why a frame is not written into a fresh buffer
-abbrev pub why_not_written : Named → Outline → List ℕ → Wanted → ℕ → Option Refusal
-why_not_written c o text f size = write_refusal (writing_of c) o text f.number (length (fresh size))
+abbrev pub why_not_written : Writing → Outline → List ℕ → Option Refusal
+why_not_written w o text = write_refusal (writing_of w.carrier) o text w.frame.number (length (fresh w.size))
 
 -- the buffer after writing a frame
-abbrev pub buffer_after : Named → Outline → List ℕ → Wanted → ℕ → List ℕ
-buffer_after c o text f size =
-    left (why_not_written c o text f size)
-    (place ((writing_of c).frame (label_of o no_item text) f.toggle f.service f.number) ++ drop 21 (fresh size))
-    (fresh size)
+abbrev pub buffer_after : Writing → Outline → List ℕ → List ℕ
+buffer_after w o text =
+    left (why_not_written w o text)
+    (place ((writing_of w.carrier).frame (label_of o no_item text) w.frame.toggle w.frame.service w.frame.number) ++ drop 21 (fresh w.size))
+    (fresh w.size)
 
--- the reply says what came of the call, and shows the buffer whole
-abbrev pub Shows : Reply → Result (Unit {0}) Refusal → List ℕ → Type 0
-Shows (Call x) call bytes = ⊥
-Shows (Fits x) call bytes = ⊥
-Shows (Count x) call bytes = ⊥
-Shows (Written x v) call bytes = (x ≡ call) × (vec_items v ≡ bytes)
-
--- the reply of a frame that is written over a text; only memory can fail
-abbrev pub Writes : Named → Outline → List ℕ → Wanted → ℕ → Result Reply Fault → Type 0
-Writes c o text f size r = MatchResult r (λ x. Shows x (done (why_not_written c o text f size) tt) (buffer_after c o text f size)) (λ e. e ≡ Memory)
-
--- the text over which a label is written: its own, unless another is given
-abbrev pub text_for : Writing → List ℕ → List ℕ
-text_for w own = elim w.text [ None ↦ own | Some other ↦ vec_items other ]
+-- the reply of a frame that is written over a text shows the buffer whole; only memory can fail
+abbrev pub Writes : Writing → Outline → List ℕ → Result Reply Fault → Type 0
+Writes w o text r = MatchResult r (λ x. Shows x (done (why_not_written w o text) tt) (buffer_after w o text)) (λ e. e ≡ Memory)
 
 -- write: of a sealed label alone
 abbrev pub WriteReply : Held → Writing → Result Reply Fault → Type 0
-WriteReply nothing w r = r ≡ Err Wrong
-WriteReply (drafted o text) w r = r ≡ Err Wrong
-WriteReply (closed o text) w r = Writes w.carrier o (text_for w text) w.frame w.size r
+WriteReply h w r = OfSealed h w.text (λ o text. Writes w o text r) (r ≡ Err Wrong)
 
 -- what a command answers, and what the bench holds after it
 abbrev pub Obeys : Held → Command → Result Reply Fault → Held → Type 0

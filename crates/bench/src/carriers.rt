@@ -2,17 +2,16 @@ ghost use Rattle.std.specs.Prelude.{◌≡◌, ◌++◌, length, drop, MatchResu
 ghost use Rattle.label.specs.Drafts.{sealed_outline, done, left};
 ghost use Rattle.label.specs.Label.{label_of};
 ghost use Rattle.carrier.specs.Writing.{place, write_refusal};
-ghost use Rattle.bench.specs.Carriers.{writing_of, no_item};
-ghost use Rattle.bench.specs.declared.fault.Fault.TheVariants.{Wrong};
-ghost use Rattle.bench.specs.Lines.{name_of};
+ghost use Rattle.script.specs.declared.fault.Fault.TheVariants.{Wrong};
+ghost use Rattle.bench.specs.Carriers.{writing_of, no_item, name_of};
 
-use crate::fault::Fault;
 use carrier::carrier::Carrier;
 use dab::dab::Dab;
 use fm::fm::Fm;
 use label::refusal::Refusal;
 use label::sealed::Sealed;
 use label::tag::ItemBits;
+use script::fault::Fault;
 
 // The carriers by their names.
 #[derive(Clone, Copy)]
@@ -34,6 +33,24 @@ const NO_ITEM: ItemBits = ItemBits {
     running: false,
 };
 
+impl Wanted {
+    // Writes this frame with both item bits 0.
+    fn write<C: Carrier>(self, label: &Sealed, text: &[u8], space: &mut [u8]) -> Result<(), Refusal>
+        ensures reply { result ≡ done (write_refusal C.meaning.writing (sealed_outline label.now) text.now self.number (length space.old)) tt }
+        ensures space { space.new ≡ left (write_refusal C.meaning.writing (sealed_outline label.now) text.now self.number (length space.old)) (place (C.meaning.writing.frame (label_of (sealed_outline label.now) no_item text.now) self.toggle self.service self.number) ++ drop 21 space.old) space.old }
+    {
+        C::write(
+            label,
+            NO_ITEM,
+            text,
+            self.toggle,
+            self.service,
+            self.number,
+            space,
+        )
+    }
+}
+
 impl Named {
     pub fn parse(word: &str) -> Result<Named, Fault>
         ensures { MatchResult result (λ c. word.now ≡ name_of c) (λ e. (e ≡ Wrong) × ((c : Named) → word.now ≢ name_of c)) }
@@ -45,6 +62,7 @@ impl Named {
         }
     }
 
+    // Each call is switched on the name: what it calls has no value that could be picked once.
     pub fn fits(self, label: &Sealed) -> bool
         ensures { result ≡ (writing_of self).fits (sealed_outline label.now) }
     {
@@ -75,24 +93,8 @@ impl Named {
         ensures space { space.new ≡ left (write_refusal (writing_of self) (sealed_outline label.now) text.now frame.number (length space.old)) (place ((writing_of self).frame (label_of (sealed_outline label.now) no_item text.now) frame.toggle frame.service frame.number) ++ drop 21 space.old) space.old }
     {
         match self {
-            Named::Fm => Fm::write(
-                label,
-                NO_ITEM,
-                text,
-                frame.toggle,
-                frame.service,
-                frame.number,
-                space,
-            ),
-            Named::Dab => Dab::write(
-                label,
-                NO_ITEM,
-                text,
-                frame.toggle,
-                frame.service,
-                frame.number,
-                space,
-            ),
+            Named::Fm => frame.write::<Fm>(label, text, space),
+            Named::Dab => frame.write::<Dab>(label, text, space),
         }
     }
 }

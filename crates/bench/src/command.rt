@@ -1,11 +1,8 @@
 use crate::carriers::{Named, Wanted};
-use crate::fault::Fault;
-use crate::words::{byte, bytes, flag, half_word, number as number_of, number_to};
 use label::tag::Tag;
+use script::fault::Fault;
+use script::words::{byte, bytes, flag, half_word, number, size};
 use std::alloc::Global;
-
-// The largest buffer that a call is handed.
-pub const LARGEST: u32 = 4096;
 
 // One frame of the sealed label, over its own text or another, into a buffer of so many bytes.
 #[derive(Drop)]
@@ -36,30 +33,26 @@ fn parse_tag(class: &str, start: &str, extent: &str) -> Result<Tag, Fault> {
     })
 }
 
-fn parse_frame(toggle: &str, service: &str, number: &str) -> Result<Wanted, Fault> {
-    Ok(Wanted {
-        toggle: flag(toggle)?,
-        service: half_word(service)?,
-        number: number_of(number)? as usize,
-    })
-}
-
-fn parse_size(word: &str) -> Result<usize, Fault> {
-    Ok(number_to(LARGEST, word)? as usize)
+impl Wanted {
+    fn parse(toggle: &str, service: &str, frame: &str) -> Result<Wanted, Fault> {
+        Ok(Wanted {
+            toggle: flag(toggle)?,
+            service: half_word(service)?,
+            number: number(frame)? as usize,
+        })
+    }
 }
 
 fn parse_write(
     carrier: &str,
     frame: Wanted,
-    size: &str,
+    space: &str,
     text: Option<Vec<u8>>,
 ) -> Result<Command, Fault> {
-    let carrier = Named::parse(carrier)?;
-    let size = parse_size(size)?;
     Ok(Command::Write(Writing {
-        carrier,
+        carrier: Named::parse(carrier)?,
         frame,
-        size,
+        size: size(space)?,
         text,
     }))
 }
@@ -75,11 +68,11 @@ impl Command {
             ["fits", carrier] => Ok(Command::Fits(Named::parse(carrier)?)),
             ["count", carrier] => Ok(Command::Count(Named::parse(carrier)?)),
             ["write", carrier, toggle, service, number, size] => {
-                parse_write(carrier, parse_frame(toggle, service, number)?, size, None)
+                parse_write(carrier, Wanted::parse(toggle, service, number)?, size, None)
             }
             ["write", carrier, toggle, service, number, size, text] => {
                 let text = Some(bytes(heap, text)?);
-                parse_write(carrier, parse_frame(toggle, service, number)?, size, text)
+                parse_write(carrier, Wanted::parse(toggle, service, number)?, size, text)
             }
             _ => Err(Fault::Wrong),
         }

@@ -1,11 +1,8 @@
-// The bench: every public call behind a line of text.
+// The bench: the calls of labels and frames behind a line of text.
 #![tactic(auto)]
 
+pub mod buffer;
 pub mod carriers;
 pub mod command;
-pub mod fault;
-mod hex;
-pub mod line;
-pub mod reply;
+pub mod current;
 pub mod state;
-mod words;

@@ -1,54 +1,37 @@
-ghost use Rattle.std.specs.Prelude.{◌≡◌, IfOk};
+ghost use Rattle.std.specs.Prelude.{◌≡◌};
 ghost use Rattle.label.specs.Drafts.{sealed_outline, opening_refusal, done};
-ghost use Rattle.bench.specs.declared.reply.Reply.TheVariants.{Call};
-ghost use Rattle.bench.specs.State.{nothing, held, Obeys, opened, tag_reply, after_tag, seal_reply, after_seal, reopen_reply, after_reopen, fits_reply, count_reply, fresh, Writes, WriteReply};
+ghost use Rattle.script.specs.declared.reply.Reply.TheVariants.{Call};
+ghost use Rattle.bench.specs.Held.{Held, nothing, held};
+ghost use Rattle.bench.specs.State.{Obeys, opened, tag_reply, after_tag, seal_reply, after_seal, reopen_reply, after_reopen, fits_reply, count_reply, Writes, WriteReply};
 
-use crate::carriers::{Named, Wanted};
+use crate::buffer::buffer;
+use crate::carriers::Named;
 use crate::command::{Command, Writing};
-use crate::fault::Fault;
-use crate::reply::Reply;
+use crate::current::Current;
 use label::sealed::{Draft, Sealed};
 use label::tag::Tag;
-use std::alloc::{AllocError, Global};
-
-// What a buffer is filled with before a call.
-const FILLING: u8 = 0xEE;
-
-// The label on the bench, with the text over which it was opened.
-#[derive(Drop)]
-pub enum Current {
-    Nothing,
-    Drafted(Draft, Vec<u8>),
-    Closed(Sealed, Vec<u8>),
-}
+use script::console::Console;
+use script::fault::Fault;
+use script::reply::Reply;
+use std::alloc::Global;
 
 // The console's state.
 #[derive(Drop)]
 pub struct Bench {
-    label: Current,
+    pub label: Current,
 }
 
-// A buffer as calls are handed it.
-fn buffer(heap: Global, size: usize) -> Result<Vec<u8>, AllocError>
-    ensures { IfOk result (λ v. v.items ≡ fresh size) }
-{
-    vec![in heap; FILLING; size]
-}
-
-// One frame, over this text, in a buffer of this size.
-fn write_frame(
-    heap: Global,
-    carrier: Named,
-    label: &Sealed,
-    text: &[u8],
-    frame: Wanted,
-    size: usize,
-) -> Result<Reply, Fault>
-    ensures { Writes carrier (sealed_outline label.now) text.now frame size result }
-{
-    let mut space = buffer(heap, size)?;
-    let call = carrier.write(label, text, frame, space.as_mut_slice());
-    Ok(Reply::Written(call, space))
+impl Writing {
+    // Writes the frame of this label, over this text.
+    fn write(&self, heap: Global, label: &Sealed, text: &[u8]) -> Result<Reply, Fault>
+        ensures { Writes self.now (sealed_outline label.now) text.now result }
+    {
+        let mut space = buffer(heap, self.size)?;
+        let call = self
+            .carrier
+            .write(label, text, self.frame, space.as_mut_slice());
+        Ok(Reply::Written(call, space))
+    }
 }
 
 impl Bench {
@@ -153,20 +136,18 @@ impl Bench {
     fn write(&self, heap: Global, writing: &Writing) -> Result<Reply, Fault>
         ensures { WriteReply (held self.now.label) writing.now result }
     {
-        let Current::Closed(label, own) = &self.label else {
-            return Err(Fault::Wrong);
-        };
-        let text = match &writing.text {
-            Some(other) => other.as_slice(),
-            None => own.as_slice(),
-        };
-        write_frame(
-            heap,
-            writing.carrier,
-            label,
-            text,
-            writing.frame,
-            writing.size,
-        )
+        let (label, text) = self.label.sealed(&writing.text)?;
+        writing.write(heap, label, text)
+    }
+}
+
+impl Console for Bench {
+    ghost State = { Held };
+
+    ghost state = { λ b. held b.label };
+
+    fn obey_words(&mut self, heap: Global, words: &[&str]) -> Result<Reply, Fault> {
+        let command = Command::parse(heap, words)?;
+        self.obey(heap, command)
     }
 }

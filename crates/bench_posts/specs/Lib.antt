@@ -1,4 +1,2 @@
-pub mod Carriers
-pub mod Held
 pub mod Posts
 pub mod State

@@ -1,5 +1,5 @@
 -- A post: a station and a display on one carrier, and what its orders answer and leave behind.
-use Rattle.std.specs.Prelude.{◌≡◌, ℕ, ◌*◌, false, not, List, ◌++◌, length, drop, Some, None, Ok, Err, vec_items, Option, Result, MatchResult}
+use Rattle.std.specs.Prelude.{◌≡◌, ℕ, ◌*◌, false, not, List, ◌++◌, length, drop, Ok, Err, vec_items, Option, Result, MatchResult}
 use Rattle.label.specs.Drafts.{done, left}
 use Rattle.label.specs.Label.{Outline, label_of}
 use Rattle.label.specs.declared.refusal.Refusal.{Refusal}
@@ -11,13 +11,13 @@ use Rattle.agreement.specs.Station.{Vars, new_vars, call_refusal, call_step, sen
 use Rattle.station.specs.Sending.{places}
 use Rattle.station.specs.Vars.{vars}
 use Rattle.display.specs.View.{view}
-use Rattle.script.specs.Lines.{sent_line, text_line, with_buffer, reply_line}
+use Rattle.script.specs.Shown.{ShowsSent, ShowsText}
 use Rattle.script.specs.declared.fault.Fault.{Fault}
 use Rattle.script.specs.declared.fault.Fault.TheVariants.{Wrong, Memory}
 use Rattle.script.specs.declared.reply.Reply.{Reply}
 use Rattle.script.specs.declared.reply.Reply.TheVariants.{Call, Taken, Front as Shows}
 use Rattle.front.specs.Reading.{reading_of}
-use Rattle.bench_posts.specs.Held.{Held, nothing, drafted, closed, fresh}
+use Rattle.bench.specs.Held.{Held, OfSealed, fresh}
 use Rattle.bench_posts.specs.declared.command.Order.{Order}
 use Rattle.bench_posts.specs.declared.command.Order.TheVariants.{Station, Start, End, Send, Take, Read, Retune, Front}
 use Rattle.bench_posts.specs.declared.command.Sending.{Sending}
@@ -57,18 +57,12 @@ vars_sent m p o text size = left (why_not_sent m o text size) (record { toggle =
 abbrev pub Sends : {S : Type 0} → Meaning S → Outline → List ℕ → ℕ → PostState S → Result Reply Fault → PostState S → Type 0
 Sends m o text size p r q =
     MatchResult r
-    (λ x. (reply_line x ≡ with_buffer (sent_line (done (why_not_sent m o text size) (m.writing.count o))) (buffer_sent m p o text size)) × (q ≡ with_vars p (vars_sent m p o text size)))
+    (λ x. ShowsSent x (done (why_not_sent m o text size) (m.writing.count o)) (buffer_sent m p o text size) × (q ≡ with_vars p (vars_sent m p o text size)))
     (λ e. (e ≡ Memory) × (q ≡ p))
-
--- the text over which the label is sent: its own, unless another is given
-abbrev pub sent_over : Sending → List ℕ → List ℕ
-sent_over s own = elim s.text [ None ↦ own | Some other ↦ vec_items other ]
 
 -- send: of a sealed label alone
 abbrev pub SendReply : {S : Type 0} → Meaning S → Held → Sending → PostState S → Result Reply Fault → PostState S → Type 0
-SendReply m nothing s p r q = (r ≡ Err Wrong) × (q ≡ p)
-SendReply m (drafted o text) s p r q = (r ≡ Err Wrong) × (q ≡ p)
-SendReply m (closed o text) s p r q = Sends m o (sent_over s text) s.size p r q
+SendReply m h s p r q = OfSealed h s.text (λ o text. Sends m o text s.size p r q) ((r ≡ Err Wrong) × (q ≡ p))
 
 -- a class read into a fresh buffer
 abbrev pub why_not_read : {S : Type 0} → PostState S → ℕ → ℕ → Option Refusal
@@ -78,7 +72,7 @@ abbrev pub buffer_read : {S : Type 0} → PostState S → ℕ → ℕ → List �
 buffer_read p c size = left (why_not_read p c size) (p.shown.table.row c ++ drop (length (p.shown.table.row c)) (fresh size)) (fresh size)
 
 abbrev pub Reads : {S : Type 0} → PostState S → ℕ → ℕ → Result Reply Fault → Type 0
-Reads p c size r = MatchResult r (λ x. reply_line x ≡ with_buffer (text_line (done (why_not_read p c size) (length (p.shown.table.row c)))) (buffer_read p c size)) (λ e. e ≡ Memory)
+Reads p c size r = MatchResult r (λ x. ShowsText x (done (why_not_read p c size) (length (p.shown.table.row c))) (buffer_read p c size)) (λ e. e ≡ Memory)
 
 -- what an order answers, with the label that is on the bench, and what the post is after it
 abbrev pub PostObeys : {S : Type 0} → Meaning S → Held → Order → PostState S → Result Reply Fault → PostState S → Type 0

@@ -1,11 +1,12 @@
-ghost use Rattle.std.specs.Prelude.{◌≡◌, IfOk};
+ghost use Rattle.std.specs.Prelude.{◌≡◌};
 ghost use Rattle.label.specs.Drafts.{sealed_outline};
 ghost use Rattle.front.specs.Reading.{reading_of};
-ghost use Rattle.bench_posts.specs.Held.{held, fresh};
+ghost use Rattle.bench.specs.Held.{held};
 ghost use Rattle.bench_posts.specs.Posts.{post_of, new_post, PostObeys, SendReply, Sends, Reads};
 
 use crate::command::{Order, Sending};
-use crate::current::Current;
+use bench::buffer::buffer;
+use bench::current::Current;
 use carrier::carrier::Carrier;
 use display::shown::Display;
 use front::front::Front;
@@ -14,23 +15,13 @@ use label::sealed::Sealed;
 use script::fault::Fault;
 use script::reply::Reply;
 use station::station::Station;
-use std::alloc::{AllocError, Global};
-
-// What a buffer is filled with before a call.
-const FILLING: u8 = 0xEE;
+use std::alloc::Global;
 
 // A station and a display on one carrier.
 #[derive(Drop)]
 pub struct Post<C> {
     pub(crate) station: Station<C>,
     pub(crate) display: Display<C>,
-}
-
-// A buffer as calls are handed it.
-pub(crate) fn buffer(heap: Global, size: usize) -> Result<Vec<u8>, AllocError>
-    ensures { IfOk result (λ v. v.items ≡ fresh size) }
-{
-    vec![in heap; FILLING; size]
 }
 
 impl<C: Carrier + Drop> Post<C> {
@@ -68,13 +59,7 @@ impl<C: Carrier + Drop> Post<C> {
     fn send(&mut self, heap: Global, label: &Current, sending: &Sending) -> Result<Reply, Fault>
         ensures { SendReply C.meaning (held label.now) sending.now (post_of C.state self.old) result (post_of C.state self.new) }
     {
-        let Current::Closed(label, own) = label else {
-            return Err(Fault::Wrong);
-        };
-        let text = match &sending.text {
-            Some(other) => other.as_slice(),
-            None => own.as_slice(),
-        };
+        let (label, text) = label.sealed(&sending.text)?;
         self.send_over(heap, label, text, sending.size)
     }
 

@@ -1,2 +1,3 @@
+mod Hex
 mod Numbers
-mod Pairs
+pub mod Shown

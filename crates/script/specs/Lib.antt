@@ -1,3 +1,5 @@
-pub mod Digits
+pub mod Asking
 pub mod Bytes
+pub mod Digits
 pub mod Lines
+pub mod Shown

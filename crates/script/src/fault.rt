@@ -1,6 +1,7 @@
 ghost use Rattle.std.specs.Prelude.{◌≡◌};
 ghost use Rattle.script.specs.declared.fault.Fault.TheVariants.{Memory};
 
+use hex::FromHexError;
 use std::alloc::{AllocError, AllocFailed};
 
 // Why a line gets no answer of its own.
@@ -25,5 +26,18 @@ impl<T: Drop> From<AllocFailed<T>> for Fault {
 
     fn from(_e: AllocFailed<T>) -> Fault {
         Fault::Memory
+    }
+}
+
+impl From<FromHexError> for Fault {
+    ghost use Rattle.script.specs.Bytes.{fault_of};
+
+    ghost from_gives = { λ e r. r ≡ fault_of e };
+
+    fn from(e: FromHexError) -> Fault {
+        match e {
+            FromHexError::OutOfMemory => Fault::Memory,
+            _ => Fault::Wrong,
+        }
     }
 }

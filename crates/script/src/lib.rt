@@ -1,7 +1,7 @@
-// The console's words: numbers and bytes as they are read, and replies as they are written.
+// The console's words: lines and the numbers and bytes in them as they are read, and replies as they are written.
 #![tactic(auto)]
 
+pub mod console;
 pub mod fault;
-mod hex;
 pub mod reply;
 pub mod words;

@@ -1,7 +1,7 @@
 ghost use Rattle.std.specs.Prelude.{◌≡◌, IfOk, string_bytes};
+ghost use Rattle.script.specs.Digits.{printed};
 ghost use Rattle.script.specs.Lines.{refused_line, call_line, sent_line, text_line, taken_line, record_line, with_buffer, reply_line};
 
-use crate::hex::push_hex;
 use carrier::answer::Answer;
 use front::record::Record;
 use label::refusal::Refusal;
@@ -83,14 +83,22 @@ fn record_line(heap: Global, record: Record) -> Result<String, AllocError>
     }
 }
 
+// Bytes in hexadecimal, or `-` for none.
+fn printed(heap: Global, bytes: &[u8]) -> Result<String, AllocError>
+    ensures { IfOk result (λ s. string_bytes s ≡ printed bytes.now) }
+{
+    if bytes.is_empty() {
+        return String::from_str(heap, "-");
+    }
+    hex::encode(heap, bytes)
+}
+
 // The buffer behind the words.
-fn with_buffer(words: String, space: &[u8]) -> Result<String, AllocError>
+fn with_buffer(heap: Global, words: String, space: &[u8]) -> Result<String, AllocError>
     ensures { IfOk result (λ s. string_bytes s ≡ with_buffer (string_bytes words) space.now) }
 {
-    let mut line = words;
-    line.push(' ')?;
-    push_hex(&mut line, space)?;
-    Ok(line)
+    let shown = printed(heap, space)?;
+    format!(in heap; "{words} {shown}")
 }
 
 impl Reply {
@@ -103,10 +111,22 @@ impl Reply {
             Reply::Fits(true) => String::from_str(heap, "yes"),
             Reply::Fits(false) => String::from_str(heap, "no"),
             Reply::Count(count) => format!(in heap; "{count}"),
-            Reply::Written(call, space) => with_buffer(call_line(heap, *call)?, space.as_slice()),
-            Reply::Sent(call, space) => with_buffer(sent_line(heap, *call)?, space.as_slice()),
+            Reply::Written(call, space) => with_buffer(
+                heap,
+                call_line(heap, *call)?,
+                space.as_slice(),
+            ),
+            Reply::Sent(call, space) => with_buffer(
+                heap,
+                sent_line(heap, *call)?,
+                space.as_slice(),
+            ),
             Reply::Taken(call) => taken_line(heap, *call),
-            Reply::Text(call, space) => with_buffer(text_line(heap, *call)?, space.as_slice()),
+            Reply::Text(call, space) => with_buffer(
+                heap,
+                text_line(heap, *call)?,
+                space.as_slice(),
+            ),
             Reply::Front(record) => record_line(heap, *record),
         }
     }

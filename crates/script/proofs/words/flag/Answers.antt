@@ -1,9 +1,7 @@
 use Rattle.script.specs.Digits.{number_to}
-use Rattle.script.proofs.Numbers.{flag_ok, flag_err}
+use Rattle.script.proofs.Numbers.{flag_err}
 use Rattle.script.proofs.words.flag.Goals as goal
 
-pub returns-in-Ok : goal.returns-in-Ok
-returns-in-Ok c = flag_ok (number_to 1 c.args.word.now) c.in-Ok.n c.in-Ok.ensures
-
-pub returns-in-Err : goal.returns-in-Err
-returns-in-Err c = flag_err (number_to 1 c.args.word.now) c.in-Err.fault c.in-Err.ensures
+pub returns-in_err-number_to : goal.returns-in_err-number_to
+returns-in_err-number_to c =
+    flag_err (number_to 1 c.args.word.now) c.from_residual.result c.in_err-number_to.field-0.0 c.in_err-number_to.ensures c.from_residual.ensures.1
