@@ -1,6 +1,8 @@
 use crate::not_sent::NotSent;
 use crate::report::Report;
+use carrier::airing::Airing;
 use carrier::carrier::Carrier;
+use carrier::writing::PLACE;
 use label::refusal::Refusal;
 use label::sealed::{Draft, Sealed};
 use label::tag::ItemBits;
@@ -84,7 +86,26 @@ impl Transmitter {
     }
 
     // A frame in its place: its length, the frame, zeros. Both item bits are 0: no item is told of yet.
-    fn write<C: Carrier>(&self, ready: &Ready, number: usize) -> Result<[u8; 21], Refusal> {
+    fn write<C: Carrier>(&self, ready: &Ready, number: usize) -> Result<[u8; PLACE], Refusal> {
+        let airing = Airing {
+            label: &ready.label,
+            text: ready.composed.text.as_slice(),
+            item: ItemBits::default(),
+            toggle: self.toggle,
+            service: self.service,
+        };
+        let mut place = [0; PLACE];
+        C::write(&airing, number, &mut place)?;
+        Ok(place) => self.print(place.as_slice(), report)?,
+                Err(refusal) => report.no_frame(number, refusal)?,
+            }
+        }
+        self.toggle = !self.toggle;
+        Ok(())
+    }
+
+    // A frame in its place: its length, the frame, zeros. Both item bits are 0: no item is told of yet.
+    fn write<C: Carrier>(&self, ready: &Ready, number: usize) -> Result<[u8; PLACE], Refusal> {
         let mut place = [0u8; 21];
         C::write(
             &ready.label,

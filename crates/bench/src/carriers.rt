@@ -5,6 +5,7 @@ ghost use Rattle.carrier.specs.Writing.{place, write_refusal};
 ghost use Rattle.script.specs.declared.fault.Fault.TheVariants.{Wrong};
 ghost use Rattle.bench.specs.Carriers.{writing_of, no_item, name_of};
 
+use carrier::airing::Airing;
 use carrier::carrier::Carrier;
 use dab::dab::Dab;
 use fm::fm::Fm;
@@ -28,26 +29,20 @@ pub struct Wanted {
     pub number: usize,
 }
 
-const NO_ITEM: ItemBits = ItemBits {
-    toggle: false,
-    running: false,
-};
-
 impl Wanted {
     // Writes this frame with both item bits 0.
     fn write<C: Carrier>(self, label: &Sealed, text: &[u8], space: &mut [u8]) -> Result<(), Refusal>
         ensures reply { result ≡ done (write_refusal C.meaning.writing (sealed_outline label.now) text.now self.number (length space.old)) tt }
         ensures space { space.new ≡ left (write_refusal C.meaning.writing (sealed_outline label.now) text.now self.number (length space.old)) (place (C.meaning.writing.frame (label_of (sealed_outline label.now) no_item text.now) self.toggle self.service self.number) ++ drop 21 space.old) space.old }
     {
-        C::write(
+        let airing = Airing {
             label,
-            NO_ITEM,
             text,
-            self.toggle,
-            self.service,
-            self.number,
-            space,
-        )
+            item: ItemBits::default(),
+            toggle: self.toggle,
+            service: self.service,
+        };
+        C::write(&airing, self.number, space)
     }
 }
 
