@@ -96,26 +96,6 @@ impl Transmitter {
         };
         let mut place = [0; PLACE];
         C::write(&airing, number, &mut place)?;
-        Ok(place) => self.print(place.as_slice(), report)?,
-                Err(refusal) => report.no_frame(number, refusal)?,
-            }
-        }
-        self.toggle = !self.toggle;
-        Ok(())
-    }
-
-    // A frame in its place: its length, the frame, zeros. Both item bits are 0: no item is told of yet.
-    fn write<C: Carrier>(&self, ready: &Ready, number: usize) -> Result<[u8; PLACE], Refusal> {
-        let mut place = [0u8; 21];
-        C::write(
-            &ready.label,
-            ItemBits::default(),
-            ready.composed.text.as_slice(),
-            self.toggle,
-            self.service,
-            number,
-            &mut place,
-        )?;
         Ok(place)
     }
 
