@@ -1,5 +1,6 @@
 -- How FM puts a text together: 16 segments of four bytes, and a 0x0D that closes a shorter text.
-use Rattle.std.specs.Prelude.{ℕ, Bool, false, cond, ◌||◌, List, [], ◌∷◌, Some, ◌==◌}
+use Rattle.std.specs.Prelude.{ℕ, Bool, false, cond, List, [], ◌∷◌, Some, ◌==◌}
+use Rattle.std.specs.List.{list_any}
 use Rattle.taking.specs.declared.look.Look.TheVariants.{Behind}
 use Rattle.taking.specs.Bytes.{same_bytes}
 use Rattle.taking.specs.Pieces.{Pieces}
@@ -7,8 +8,7 @@ use Rattle.taking.specs.Segments.{Segments, Numbered, Held, in_segments}
 
 -- the row has a 0x0D
 abbrev pub has_return : List ℕ → Bool
-has_return [] = false
-has_return (x ∷ xs) = x == 0x0D || has_return xs
+has_return xs = list_any (λ x. x == 0x0D) xs
 
 -- the bytes before its first 0x0D
 abbrev pub before_return : List ℕ → List ℕ
