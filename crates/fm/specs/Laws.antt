@@ -24,7 +24,6 @@ use Rattle.fm.specs.Taking.{FmState, group_of, version_of, own_bits, announces, 
 use Rattle.fm.specs.Text.{fm_segments, fm_pieces}
 use Rattle.fm.specs.Aired.{fm_airs}
 use Rattle.fm.specs.Bits.{fm_fitting, tags_read, bits_small}
-use Rattle.fm.specs.Closed.{closed_length}
 use Rattle.fm.specs.FramesLemmas.{text_at, announcing_at, tags_at, last_few}
 use Rattle.fm.specs.Texts.{fm_text}
 
@@ -38,7 +37,7 @@ two_tags (t ∷ (u ∷ us)) = grind arith
 
 -- a segment has four bytes
 segment_long : (x : List ℕ) → length x ≤ 64 → (i : ℕ) → i ≤ last_segment (length x) → length (segment x i) ≡ 4
-segment_long x c i h = let z = closed_length x i c h in grind (arith, common_steps)
+segment_long x c i h = grind (arith, nat_tests, common_steps)
 
 -- what each frame does
 step_text : (s : FmState) (x : List ℕ) (t : Bool) (v n : ℕ) → n < 16 → length (segment x n) ≡ 4
@@ -186,18 +185,12 @@ fm_tells s f =
     (tells_cond fm.told (group_of f == 2) _ _
     (tells_lifted s _ (tells_text fm_pieces s.core (text_toggle f) (text_piece f)))
     (tells_cond fm.told (announces f) _ _
-    (tells_cond fm.told (ert_flag f) _ _ (tells_other fm.told Kept _ kept) (tells_cond fm.told (own_bits f % 2 == 0 && usable (own_bits f / 2)) _ _ (tells_other fm.told Kept _ kept) (tells_refused fm.told UnusableGroup)))
+    (tells_cond fm.told (ert_flag f) _ _ (tells_other fm.told Kept _ (λ e. cc)) (tells_cond fm.told (own_bits f % 2 == 0 && usable (own_bits f / 2)) _ _ (tells_other fm.told Kept _ (λ e. cc)) (tells_refused fm.told UnusableGroup)))
     (tells_cond fm.told (has_learnt s.group (group_of f)) _ _
     (tells_lifted s _ (tells_tags fm_pieces s.core None (unpacked (read_bits f))))
-    (tells_other fm.told PassedOver s passed))))
-    (tells_other fm.told PassedOver s passed))
+    (tells_other fm.told PassedOver s (λ e. cc)))))
+    (tells_other fm.told PassedOver s (λ e. cc)))
     (tells_refused fm.told WrongSize)
-  where
-    kept : Kept ≡ Complete → ⊥
-    kept e = cc
-
-    passed : PassedOver ≡ Complete → ⊥
-    passed e = cc
 
 pub fm_lawful : Lawful fm
 fm_lawful = record {

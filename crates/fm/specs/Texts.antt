@@ -1,11 +1,11 @@
 -- A label's text in FM's segments.
-use Rattle.std.specs.Prelude.{◌≡◌, ℕ, zero, suc, ◌*◌, ◌/◌, ◌<◌, ◌≤◌, true, false, cond, List, [], ◌∷◌, ◌++◌, length, take, drop, nat_lt, refl}
+use Rattle.std.specs.Prelude.{◌≡◌, ℕ, zero, suc, ◌*◌, ◌/◌, ◌<◌, ◌≤◌, true, false, cond, List, [], ◌∷◌, ◌++◌, length, take, drop, ◌==◌, nat_lt, refl}
 use Rattle.std.proofs.Common.{sym, ap, ◌∙◌, inl, inr, ⊎_elim, arith, length-drop}
+use Rattle.std.specs.List.{position_or_len}
 use Rattle.std.proofs.lemmas.List.{take_all, take-append-le, drop-append-le}
 use Rattle.std.proofs.lemmas.Bool.Decides.{nat_tests}
 use Rattle.std.proofs.lemmas.Grind.{common_steps}
-use Rattle.std.proofs.lemmas.Bool.{ltb-true, ltb-false}
-use Rattle.std.proofs.lemmas.Bool.{cases_lt}
+use Rattle.std.proofs.lemmas.Bool.{ltb-true, ltb-false, cases_lt}
 use Rattle.label.specs.Drafts.{control}
 use Rattle.label.specs.Lists.{any}
 use Rattle.taking.specs.Segments.{SegmentsOf}
@@ -18,9 +18,16 @@ printing_return : (xs : List ℕ) → any control xs ≡ false → has_return xs
 printing_return [] e = refl
 printing_return (x ∷ xs) e = grind (arith, nat_tests, printing_return xs)
 
+-- where the first 0x0D is, or the end
+abbrev pub return_at : List ℕ → ℕ
+return_at xs = position_or_len (λ x. x == 0x0D) xs
+
+printing_all : (xs : List ℕ) → any control xs ≡ false → return_at xs ≡ length xs
+printing_all [] e = refl
+printing_all (x ∷ xs) e = grind (arith, nat_tests, printing_all xs)
+
 printing_before : (xs : List ℕ) → any control xs ≡ false → before_return xs ≡ xs
-printing_before [] e = refl
-printing_before (x ∷ xs) e = grind (arith, nat_tests, printing_before xs)
+printing_before xs e = take_all (return_at xs) xs (omega (arith, printing_all xs e))
 
 printing_drop : (n : ℕ) (xs : List ℕ) → any control xs ≡ false → any control (drop n xs) ≡ false
 printing_drop zero xs e = e
@@ -38,10 +45,13 @@ closed_return zero xs ys c e = absurd (omega arith)
 closed_return (suc n) [] ys c e = refl
 closed_return (suc n) (x ∷ xs) ys c e = grind (arith, nat_tests, closed_return n xs ys)
 
+closed_at : (n : ℕ) (xs ys : List ℕ) → length xs < n → any control xs ≡ false → return_at (take n (xs ++ (13 ∷ ys))) ≡ length xs
+closed_at zero xs ys c e = absurd (omega arith)
+closed_at (suc n) [] ys c e = refl
+closed_at (suc n) (x ∷ xs) ys c e = grind (arith, nat_tests, closed_at n xs ys)
+
 closed_before : (n : ℕ) (xs ys : List ℕ) → length xs < n → any control xs ≡ false → before_return (take n (xs ++ (13 ∷ ys))) ≡ xs
-closed_before zero xs ys c e = absurd (omega arith)
-closed_before (suc n) [] ys c e = refl
-closed_before (suc n) (x ∷ xs) ys c e = grind (arith, nat_tests, closed_before n xs ys)
+closed_before n xs ys c e = let z = closed_at n xs ys c e in grind (arith, common_steps)
 
 -- the closing 0x0D, and the spaces that fill a segment
 abbrev closing : List ℕ
