@@ -1,6 +1,5 @@
 -- The shared taking rules give the hearing laws, for any pieces and any label.
-use Rattle.std.proofs.Common.{◌≡◌, ℕ, ◌<◌, Bool, true, false, cond, ◌⊎◌, List, [], ◌∷◌, ◌++◌, Some, None, Option, sym, refl, ap, ◌∙◌, subst, inl, inr, ⊎_elim, arith}
-use mathlib.Core.Bool.{beq}
+use Rattle.std.proofs.Common.{◌≡◌, ℕ, ◌<◌, Bool, true, false, cond, ◌⊎◌, List, [], ◌∷◌, ◌++◌, Some, None, Option, sym, refl, ap, ◌∙◌, subst, inl, inr, ⊎_elim}
 use Rattle.std.proofs.lemmas.Bool.{eq-eqb, and_parts, and_from, or_left, or_right}
 use Rattle.carrier.specs.Hearing.{AtMostOnce, IsLabel, Once}
 use Rattle.carrier.specs.Meaning.{answered, next, refused}
@@ -14,10 +13,7 @@ use Rattle.taking.specs.Events.{Airs, AllWithin, Among, Event, HearsEvents, OnAi
 use Rattle.taking.specs.Pieces.{Pieces, PiecesOf}
 use Rattle.taking.specs.Taking.{Tags, Taken, agrees, begun, by_look, forgotten, label_from, met, on_tags, on_text, settled, stands, tags_met, tags_told, waiting_for}
 use Rattle.taking.specs.declared.look.Look.TheVariants.{Equal, Fresh}
-
-beq_same : (t : Bool) → beq t t ≡ true
-beq_same true = refl
-beq_same false = refl
+use Rattle.taking.proofs.Cutting.{beq_same}
 
 -- tags are like themselves, silent ones left out or not
 tag_same : (t : Tag) → same_tag t t ≡ true
@@ -176,10 +172,10 @@ module _ {P K : Type 0} (q : Pieces P K) (l : Label) (a : OnAir K) (Part : P →
   comes_next p r e es old new g i h = ⊎_elim (λ x. inl (old i x)) (λ y. ⊎_elim (λ x. inl (new i x)) inr y) (g i h)
 
   no_piece : {X : Type 0} (j : ℕ) → tags ≡ piece j → X
-  no_piece j e = let z : ◌≡◌ {A = ℕ} 0 1 = cc in absurd (omega arith)
+  no_piece j e = absurd (cc)
 
   no_aside : {X : Type 0} (j : ℕ) → aside ≡ piece j → X
-  no_aside j e = let z : ◌≡◌ {A = ℕ} 0 1 = cc in absurd (omega arith)
+  no_aside j e = absurd (cc)
 
   tags_later : (e : Event) (es : List Event) → (e ≡ tags → ⊥) → Among tags (e ∷ es) → Among tags es
   tags_later e es n (inl x) = absurd (n x)
@@ -191,9 +187,7 @@ module _ {P K : Type 0} (q : Pieces P K) (l : Label) (a : OnAir K) (Part : P →
   -- runs: the tags wait, and the text is not complete
   still_open : (p : P) → Part p → q.text p ≡ None → Comes p [] → ⊥
   still_open p pp h g =
-      let e = po.whole p pp (λ i c. ⊎_elim (λ x. x) (λ y. absurd y) (g i c)) in
-      let z : ◌≡◌ {A = ℕ} 0 1 = cc in
-      absurd (omega arith)
+      let e = po.whole p pp (λ i c. ⊎_elim (λ x. x) (λ y. absurd y) (g i c)) in cc
 
   tagged_piece : (i : ℕ) (es : List Event) (p : P) → Part p → q.text p ≡ None → i < a.count → AllWithin a.count es
       → ((r : P) → Part r → q.text r ≡ None → Ends (tagged a.toggle a.tags r) es (Comes r es))
@@ -247,7 +241,7 @@ module _ {P K : Type 0} (q : Pieces P K) (l : Label) (a : OnAir K) (Part : P →
   from_bare (tags ∷ es) p pp c = bare_tagged es p pp c.1 (po.texts p pp)
   from_bare (aside ∷ es) p pp c =
       ends_kept _ (bare a.toggle p) aside es refl
-      (λ g. (comes_next p p aside es (λ j x. x) (λ j e. no_aside j e) g.0, tags_later aside es (λ e. let z : ◌≡◌ {A = ℕ} 0 1 = cc in omega arith) g.1))
+      (λ g. (comes_next p p aside es (λ j x. x) (λ j e. no_aside j e) g.0, tags_later aside es (λ e. cc) g.1))
       (from_bare es p pp c.1)
 
   -- the hearing: it begins with piece 0, where the label's toggle does not stand

@@ -40,7 +40,7 @@ module _ {D : Type 0} (g : Segments D) (x : List ℕ) (m : ℕ) (d : ℕ → D) 
       or_from (is_held (h i)) (any_from h f (suc i)) (⊎_elim (λ e. ap is_held e) (λ e. absurd (omega (arith, e.0))) (p i)) (none_from h f (suc i) p (omega arith))
 
   end_last : (i : ℕ) → i < suc m → g.ends (d i) ≡ true → m < suc i
-  end_last i c e = ⊎_elim (λ y. let z = so.goes_on i y in let w : ◌≡◌ {A = ℕ} 0 1 = cc in absurd (omega arith)) (λ y. omega arith) (cases_lt i m)
+  end_last i c e = ⊎_elim (λ y. absurd (let z = so.goes_on i y in cc)) (λ y. omega arith) (cases_lt i m)
 
   not_shut : (h : Held D) (i : ℕ) → Part h → i < suc m → (g.shuts && g.ends (d i) && any_from h (g.count - suc i) (suc i)) ≡ false
   not_shut h i p c =
@@ -84,7 +84,7 @@ module _ {D : Type 0} (g : Segments D) (x : List ℕ) (m : ℕ) (d : ℕ → D) 
   read_all h p = subst (Read h (read_from g h g.count 0)) so.joins (reads h p m g.count 0 (omega arith) (omega arith))
 
   not_missing : (h : Held D) → ((i : ℕ) → i < suc m → Has h i) → (j : ℕ) → j < suc m → h j ≡ None → ⊥
-  not_missing h a j c e = let y = a j c in let z : ◌≡◌ {A = ℕ} 0 1 = cc in omega arith
+  not_missing h a j c e = let y = a j c in cc
 
   pub segment_pieces : PiecesOf (in_segments g) x (suc m) (numbered d) Part Has
   segment_pieces = record {

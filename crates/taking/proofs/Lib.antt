@@ -1,9 +1,9 @@
 pub mod Hearings
 pub mod Carried
 pub mod Joining
+pub mod Outcomes
 pub mod Idling
 pub mod Sounding
 pub mod Rows
-pub mod Steps
 pub mod Cutting
 pub mod Telling

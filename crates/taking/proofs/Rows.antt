@@ -1,18 +1,14 @@
 -- Segments in a row.
-use Rattle.std.proofs.Common.{◌≡◌, ℕ, zero, suc, ◌+◌, ◌-◌, ◌*◌, ◌<◌, ◌≤◌, Bool, true, false, cond, ◌||◌, eqb, List, [], ◌++◌, length, get_or, take, drop, set, Some, None, Option, sym, refl, ap, ◌∙◌, ⊎_elim, add-one, arith, is_some}
+use Rattle.std.proofs.Common.{◌≡◌, ℕ, zero, suc, ◌+◌, ◌-◌, ◌*◌, ◌<◌, ◌≤◌, Bool, true, false, cond, ◌||◌, List, [], ◌++◌, length, get_or, take, drop, Some, None, Option, sym, refl, ap, ◌∙◌, ⊎_elim, add-one, arith, is_some}
 use Rattle.std.specs.List.{list_any}
 use Rattle.std.specs.Option.{option_map}
 use Rattle.std.proofs.Math.Bool.{or_comm}
 use Rattle.std.proofs.Math.Nat.{mul-le-mul_left, mul-add}
-use Rattle.std.proofs.lemmas.List.{append-nil, append_assoc, drop_more, drop_all, get_or-set_same, get_or-set_other}
+use Rattle.std.proofs.lemmas.List.{append-nil, append_assoc, drop_more, drop_all}
 use Rattle.std.proofs.lemmas.List.Folds.{list_any_more}
-use Rattle.std.proofs.lemmas.Bool.{eq-eqb, ne_eqb, cond-true, cond-false, cases_eq, cases_lt}
+use Rattle.std.proofs.lemmas.Bool.{cases_lt}
 use Rattle.taking.specs.Rows.{held_in}
-use Rattle.taking.specs.Segments.{Segments, any_from, ends_at, ends_below, is_held, joined, put_segment, read_from, read_one}
-
-joined_nil : (r : Option (List ℕ)) → r ≡ joined [] r
-joined_nil None = refl
-joined_nil (Some x) = refl
+use Rattle.taking.specs.Segments.{Segments, any_from, ends_at, ends_below, is_held, joined, read_from, read_one}
 
 joined_joined : (xs ys : List ℕ) (r : Option (List ℕ)) → joined xs (joined ys r) ≡ joined (xs ++ ys) r
 joined_joined xs ys None = refl
@@ -42,52 +38,30 @@ module _ {S D : Type 0} (g : Segments D) (meant : S → D) (rows : List (Option 
       ∙ ap (λ k. is_held (held_in meant rows i) || list_any is_some (drop k rows)) (add-one i)
       ∙ ap (λ b. is_held (held_in meant rows i) || b) (held_from f (suc i) (omega arith))
 
-  -- a segment put in
-  put_at : (n : ℕ) (s : S) → n < length rows → (j : ℕ) → held_in meant (set rows n (Some s)) j ≡ put_segment (held_in meant rows) (record { number = n; segment = meant s }) j
-  put_at n s c j =
-      ⊎_elim
-      (λ (z : j ≡ n). ap (held_in meant (set rows n (Some s))) z ∙ ap (option_map meant) (get_or-set_same rows n (Some s) None c) ∙ sym (cond-true (eqb j n) (Some (meant s)) (held_in meant rows j) (eq-eqb j n z)))
-      (λ (z : j ≡ n → ⊥). ap (option_map meant) (get_or-set_other rows n j (Some s) None z) ∙ sym (cond-false (eqb j n) (Some (meant s)) (held_in meant rows j) (ne_eqb j n z)))
-      (cases_eq j n)
-
-  pub put_is : (n : ℕ) (s : S) → n < length rows → held_in meant (set rows n (Some s)) ≡ put_segment (held_in meant rows) (record { number = n; segment = meant s })
-  put_is n s c = λ i j. put_at n s c j i
-
-  -- the text of n numbers, read up to segment i
-  module _ (n : ℕ) where
+  -- the text of n numbers, where xs is read and segment i comes
+  module _ (n : ℕ) (xs : List ℕ) (i : ℕ) (s : S) where
     abbrev rest : ℕ → Option (List ℕ)
-    rest i = read_from g (held_in meant rows) (n - i) i
+    rest k = read_from g (held_in meant rows) (n - k) k
 
     abbrev whole : Option (List ℕ)
     whole = read_from g (held_in meant rows) n 0
 
-    pub read_begins : whole ≡ joined [] (rest 0)
-    read_begins = joined_nil whole ∙ ap (λ f. joined [] (read_from g (held_in meant rows) f 0)) (let e : n ≡ n - 0 = omega arith in e)
+    module _ (p : whole ≡ joined xs (rest i)) (c : i < n) (e : get_or rows i None ≡ Some s) where
+      rest_one : rest i ≡ read_one g (held_in meant rows i) (rest (i + 1))
+      rest_one =
+          let f : n - i ≡ suc (n - (i + 1)) = omega arith in
+          ap (λ k. read_from g (held_in meant rows) k i) f ∙ ap (λ k. read_one g (held_in meant rows i) (read_from g (held_in meant rows) (n - (i + 1)) k)) (sym (add-one i))
 
-    module _ (xs : List ℕ) (i : ℕ) (p : whole ≡ joined xs (rest i)) where
-      pub read_out : n ≤ i → whole ≡ joined xs g.unended
-      read_out c = let e : n - i ≡ 0 = omega arith in p ∙ ap (λ f. joined xs (read_from g (held_in meant rows) f i)) e
+      read_on : whole ≡ joined (xs ++ g.bytes (meant s)) (cond (g.ends (meant s)) (Some []) (rest (i + 1)))
+      read_on =
+          p ∙ ap (joined xs) (rest_one ∙ ap (λ o. read_one g (option_map meant o) (rest (i + 1))) e)
+          ∙ joined_joined xs (g.bytes (meant s)) (cond (g.ends (meant s)) (Some []) (rest (i + 1)))
 
-      module _ (c : i < n) where
-        rest_one : rest i ≡ read_one g (held_in meant rows i) (rest (i + 1))
-        rest_one =
-            let e : n - i ≡ suc (n - (i + 1)) = omega arith in
-            ap (λ f. read_from g (held_in meant rows) f i) e ∙ ap (λ k. read_one g (held_in meant rows i) (read_from g (held_in meant rows) (n - (i + 1)) k)) (sym (add-one i))
+      pub read_more : g.ends (meant s) ≡ false → whole ≡ joined (xs ++ g.bytes (meant s)) (rest (i + 1))
+      read_more h = read_on ∙ ap (λ b. joined (xs ++ g.bytes (meant s)) (cond b (Some []) (rest (i + 1)))) h
 
-        pub read_missing : get_or rows i None ≡ None → whole ≡ None
-        read_missing e = p ∙ ap (joined xs) (rest_one ∙ ap (λ o. read_one g (option_map meant o) (rest (i + 1))) e)
-
-        module _ (s : S) (e : get_or rows i None ≡ Some s) where
-          read_on : whole ≡ joined (xs ++ g.bytes (meant s)) (cond (g.ends (meant s)) (Some []) (rest (i + 1)))
-          read_on =
-              p ∙ ap (joined xs) (rest_one ∙ ap (λ o. read_one g (option_map meant o) (rest (i + 1))) e)
-              ∙ joined_joined xs (g.bytes (meant s)) (cond (g.ends (meant s)) (Some []) (rest (i + 1)))
-
-          pub read_more : g.ends (meant s) ≡ false → whole ≡ joined (xs ++ g.bytes (meant s)) (rest (i + 1))
-          read_more h = read_on ∙ ap (λ b. joined (xs ++ g.bytes (meant s)) (cond b (Some []) (rest (i + 1)))) h
-
-          pub read_ends : g.ends (meant s) ≡ true → whole ≡ Some (xs ++ g.bytes (meant s))
-          read_ends h = read_on ∙ ap (λ b. joined (xs ++ g.bytes (meant s)) (cond b (Some []) (rest (i + 1)))) h ∙ ap Some (append-nil _)
+      pub read_ends : g.ends (meant s) ≡ true → whole ≡ Some (xs ++ g.bytes (meant s))
+      read_ends h = read_on ∙ ap (λ b. joined (xs ++ g.bytes (meant s)) (cond b (Some []) (rest (i + 1)))) h ∙ ap Some (append-nil _)
 
 -- parts of which n are at most 128 bytes long, i of them taken
 pub room : (n i taken part : ℕ) → i < n → n * taken ≤ 128 * i → n * part ≤ 128 → (taken + part) ≤ 128

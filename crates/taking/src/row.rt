@@ -81,6 +81,7 @@ fn look_in<S: Segment<N>, const N: usize>(
 }
 
 // The parts of the segments up to the one in which the text ends.
+#[tactic(auto, using(crate::proofs::Rows::read_ends, crate::proofs::Rows::room))]
 fn joined<S: Segment<N>, const N: usize>(segments: &[Option<S>]) -> Option<ArrayVec<u8, 128>>
     requires { length segments.now ≡ N }
     ensures { read_from S.segments (held_in S.meant segments.now) N 0 ≡ option_map (λ t. t.items) result }

@@ -65,6 +65,7 @@ impl<P: Pieces> Taking<P> {
     }
 
     // A piece of a text arrives.
+    #[tactic(auto, unfolding(crate::specs::Taking::on_text))]
     pub fn on_text(&mut self, toggle: bool, piece: P::Piece) -> Answer
         ensures { on_text P.pieces (view P.held self.old) toggle (P.meant piece) ≡ answered result (view P.held self.new) }
     {
@@ -129,6 +130,7 @@ impl<P: Pieces> Taking<P> {
     }
 
     // Tags arrive, with their message toggle where the carrier's tags have one.
+    #[tactic(auto, unfolding(crate::specs::Taking::on_tags))]
     pub fn on_tags(&mut self, toggle: Option<bool>, arrived: Arrived) -> Result<Answer, Refusal>
         ensures reply { result ≡ reply (on_tags P.pieces (view P.held self.old) toggle (tags_of arrived)) }
         ensures next { view P.held self.new ≡ next (view P.held self.old) (on_tags P.pieces (view P.held self.old) toggle (tags_of arrived)) }
