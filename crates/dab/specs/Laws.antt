@@ -2,7 +2,7 @@
 use Rattle.std.specs.Prelude.{◌≡◌, ℕ, ◌*◌, ◌<◌, ◌≤◌, Bool, true, false, cond, ◌&&◌, ◌||◌, List, [], ◌∷◌, length, drop, Ok, Err, Option, Result, ◌==◌, nat_le, nat_lt, slice_index, refl}
 use Rattle.std.proofs.Common.{sym, ap, ◌∙◌, length-take, length-drop}
 use native.Mathlib.Omega.{arith}
-use Rattle.std.proofs.lemmas.Bool.{and_parts, or_parts, not-true, ltb-false, leb-true, le-leb, lt-leb, cond-true, cond-false, cond_both}
+use Rattle.std.proofs.lemmas.Bool.{and_parts, or_parts, not-true, ltb-false, leb-true, le-leb, lt-leb, cond-true, cond-false}
 use Rattle.label.specs.declared.refusal.Refusal.{Refusal}
 use Rattle.label.specs.declared.refusal.Refusal.TheVariants.{WrongSize, WrongCheck, WrongLength, WrongCommand}
 use Rattle.label.specs.declared.tag.Tag.{Tag}
@@ -21,6 +21,7 @@ use Rattle.taking.specs.Segments.{Numbered}
 use Rattle.taking.specs.Taking.{Tags, new_taken, on_text, on_tags}
 use Rattle.taking.proofs.Carried.{hears, tags_ready}
 use Rattle.taking.proofs.Idling.{Still, still_same, still_refused, still_text, still_tags}
+use Rattle.taking.proofs.Outcomes.{holds_cond}
 use Rattle.taking.proofs.Telling.{Tells, tells_refused, tells_other, tells_text, tells_tags}
 use Rattle.taking.proofs.Joining.{Part, Has, segment_pieces}
 use Rattle.dab.specs.Frames.{segment, last_segment, text_first, text_second, text_body, sent_tags, command_data, command_first, command_second, command_body, dab_body, dab_writing}
@@ -184,7 +185,7 @@ module _ (check : List ℕ → ℕ) (small : (b : List ℕ) → check b < 65536)
   module _ (s : State) (P : Outcome State → Type 0) (no : (e : Refusal) → P (refused e)) (past : P (answered PassedOver s))
       (text : (g : Bool) (k : Numbered Flagged) → P (on_text dab_pieces s g k)) (marks : (g : Option Bool) (w : Tags) → P (on_tags dab_pieces s g w)) where
     either : (b : Bool) (o p : Outcome State) → P o → P p → P (cond b o p)
-    either b o p x y = cond_both b o p P (λ _. x) (λ _. y)
+    either = holds_cond P
 
     of_segment : (a : ℕ) (d : List ℕ) (r : Result ℕ Refusal) → P (on_segment s a d r)
     of_segment a d (Ok n) = text _ _
