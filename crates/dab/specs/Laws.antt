@@ -132,24 +132,18 @@ module _ (check : List ℕ → ℕ) (small : (b : List ℕ) → check b < 65536)
     within : (s : State) (n : ℕ) → Within (texts l) (dab_event l s n)
     within s n = by_number l t s n (λ _ e. Within (texts l) e) (λ c. omega arith) (λ _. tt)
 
-    event_text : (s : State) (n : ℕ) → n ≤ last → dab_event l s n ≡ piece n
-    event_text s n c = cond-true (nat_le n last) (piece n) tags (le-leb n last c)
-
-    event_tags : (s : State) (n : ℕ) → last < n → dab_event l s n ≡ tags
-    event_tags s n c = cond-false (nat_le n last) (piece n) tags (lt-leb n last c)
-
     carries : Carries (dab_by check) dab_pieces (λ s. s) l v (dab_air l t) (dab_event l)
     carries = record {
       standing = λ s. refl;
       told = λ s. refl;
       new = refl;
       fewer = omega arith;
-      pieces = λ s i c. event_text s i (omega arith);
+      pieces = λ s i c. cond-true (nat_le i last) (piece i) tags (le-leb i last (omega arith));
       within = λ s n _. within s n;
       moves = λ s n _. ap (next s) (step_is s n);
       completes = λ s n _. completed_same (step_by check s (framed_by check (dab_body l t n))) ∙ ap completed_here (step_is s n);
       tags_come = λ s ns u f. tags_ready (dab_by check) dab_pieces (λ s. s) l v (dab_air l t) (dab_event l) (λ s. Unit {0}) (texts l)
-          (λ s n _ h. tt) (λ s h. event_tags s (texts l) (omega arith)) ns s 0 (frames_of (dab_by check) l) u tt f (omega arith) (omega arith);
+          (λ s n _ h. tt) (λ s h. cond-false (nat_le (texts l) last) (piece (texts l)) tags (lt-leb (texts l) last (omega arith))) ns s 0 (frames_of (dab_by check) l) u tt f (omega arith) (omega arith);
     }
 
     dab_hears : (s : State) (ns : List ℕ) → Begins (dab_by check) t s → Numbers (frames_of (dab_by check) l) (0 ∷ ns) → Hears (dab_by check) l t v s (0 ∷ ns)
