@@ -2,7 +2,7 @@
 use Rattle.std.specs.Prelude.{◌≡◌, ℕ, ◌*◌, ◌<◌, ◌≤◌, Bool, true, false, cond, ◌&&◌, ◌||◌, List, [], ◌∷◌, length, drop, Ok, Err, Option, Result, ◌==◌, nat_le, nat_lt, slice_index, refl}
 use Rattle.std.proofs.Common.{sym, ap, ◌∙◌, length-take, length-drop}
 use native.Mathlib.Omega.{arith}
-use Rattle.std.proofs.lemmas.Bool.{and_parts, or_parts, not-true, ltb-false, leb-true, le-leb, lt-leb, cond-true, cond-false, cond_both}
+use Rattle.std.proofs.lemmas.Bool.{and_parts, or_parts, not-true, ltb-false, leb-true, le-leb, lt-leb, cond-true, cond-false}
 use Rattle.label.specs.declared.refusal.Refusal.{Refusal}
 use Rattle.label.specs.declared.refusal.Refusal.TheVariants.{WrongSize, WrongCheck, WrongLength, WrongCommand}
 use Rattle.label.specs.declared.tag.Tag.{Tag}
@@ -21,6 +21,7 @@ use Rattle.taking.specs.Segments.{Numbered}
 use Rattle.taking.specs.Taking.{Tags, new_taken, on_text, on_tags}
 use Rattle.taking.proofs.Carried.{hears, tags_ready}
 use Rattle.taking.proofs.Idling.{Still, still_same, still_refused, still_text, still_tags}
+use Rattle.taking.proofs.Outcomes.{holds_cond}
 use Rattle.taking.proofs.Telling.{Tells, tells_refused, tells_other, tells_text, tells_tags}
 use Rattle.taking.proofs.Joining.{Part, Has, segment_pieces}
 use Rattle.dab.specs.Frames.{segment, last_segment, text_first, text_second, text_body, sent_tags, command_data, command_first, command_second, command_body, dab_body, dab_writing}
@@ -131,24 +132,18 @@ module _ (check : List ℕ → ℕ) (small : (b : List ℕ) → check b < 65536)
     within : (s : State) (n : ℕ) → Within (texts l) (dab_event l s n)
     within s n = by_number l t s n (λ _ e. Within (texts l) e) (λ c. omega arith) (λ _. tt)
 
-    event_text : (s : State) (n : ℕ) → n ≤ last → dab_event l s n ≡ piece n
-    event_text s n c = cond-true (nat_le n last) (piece n) tags (le-leb n last c)
-
-    event_tags : (s : State) (n : ℕ) → last < n → dab_event l s n ≡ tags
-    event_tags s n c = cond-false (nat_le n last) (piece n) tags (lt-leb n last c)
-
     carries : Carries (dab_by check) dab_pieces (λ s. s) l v (dab_air l t) (dab_event l)
     carries = record {
       standing = λ s. refl;
       told = λ s. refl;
       new = refl;
       fewer = omega arith;
-      pieces = λ s i c. event_text s i (omega arith);
+      pieces = λ s i c. cond-true (nat_le i last) (piece i) tags (le-leb i last (omega arith));
       within = λ s n _. within s n;
       moves = λ s n _. ap (next s) (step_is s n);
       completes = λ s n _. completed_same (step_by check s (framed_by check (dab_body l t n))) ∙ ap completed_here (step_is s n);
       tags_come = λ s ns u f. tags_ready (dab_by check) dab_pieces (λ s. s) l v (dab_air l t) (dab_event l) (λ s. Unit {0}) (texts l)
-          (λ s n _ h. tt) (λ s h. event_tags s (texts l) (omega arith)) ns s 0 (frames_of (dab_by check) l) u tt f (omega arith) (omega arith);
+          (λ s n _ h. tt) (λ s h. cond-false (nat_le (texts l) last) (piece (texts l)) tags (lt-leb (texts l) last (omega arith))) ns s 0 (frames_of (dab_by check) l) u tt f (omega arith) (omega arith);
     }
 
     dab_hears : (s : State) (ns : List ℕ) → Begins (dab_by check) t s → Numbers (frames_of (dab_by check) l) (0 ∷ ns) → Hears (dab_by check) l t v s (0 ∷ ns)
@@ -184,7 +179,7 @@ module _ (check : List ℕ → ℕ) (small : (b : List ℕ) → check b < 65536)
   module _ (s : State) (P : Outcome State → Type 0) (no : (e : Refusal) → P (refused e)) (past : P (answered PassedOver s))
       (text : (g : Bool) (k : Numbered Flagged) → P (on_text dab_pieces s g k)) (marks : (g : Option Bool) (w : Tags) → P (on_tags dab_pieces s g w)) where
     either : (b : Bool) (o p : Outcome State) → P o → P p → P (cond b o p)
-    either b o p x y = cond_both b o p P (λ _. x) (λ _. y)
+    either = holds_cond P
 
     of_segment : (a : ℕ) (d : List ℕ) (r : Result ℕ Refusal) → P (on_segment s a d r)
     of_segment a d (Ok n) = text _ _

@@ -8,7 +8,7 @@ use crate::prefix::Prefix;
 use arrayvec::ArrayVec;
 use label::tag::{ItemBits, Tag};
 
-// With no tags, one that is all zeros is sent.
+// With no tags, one that is all zeros is sent. Written out, as `default` makes no const.
 const NO_TAGS: [Tag; 1] = [Tag {
     class: 0,
     start: 0,
@@ -47,6 +47,7 @@ impl<'a> SentTags<'a> {
         let mut bytes = ArrayVec::new();
         let Head(head) = Head::new(item, self.tags.len());
         bytes.push(head);
+        // a loop, as `collect` takes an allocator
         for tag in self.tags {
             bytes.try_extend_from_slice(&tag_bytes(*tag)).unwrap();
         }

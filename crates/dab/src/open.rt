@@ -31,7 +31,7 @@ fn is_right_size(len: usize) -> bool
     (5..=20).contains(&len)
 }
 
-// The two bytes are the check of the others.
+// The two bytes, the high one first, are the check of the others.
 fn is_checked(bytes: &[u8], high: u8, low: u8) -> bool
     ensures { result ≡ (check_of bytes.now == high * 256 + low) }
 {

@@ -22,6 +22,7 @@ pub(crate) fn tags_in(bytes: &[u8]) -> ArrayVec<Tag, 4>
     ensures { result.items ≡ tags_in (length bytes.now / 3) bytes.now }
 {
     let mut tags = ArrayVec::new();
+    // a loop, as `collect` takes an allocator
     for three in bytes.as_chunks().0 {
         tags.push(tag_in(three));
     }
