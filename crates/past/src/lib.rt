@@ -7,6 +7,7 @@ ghost use Rattle.std.specs.Prelude.{◌≡◌, ◌<◌, ◌≤◌, [], ◌∷◌
 mod tests;
 
 // Holds as many entries as it has places; a new one then takes the place of the oldest.
+// It has no model: a view would hide the places, and by them the lender knows what its slice ends as.
 #[derive(Drop)]
 pub struct Past<'a, T> {
     places: &'a mut [T],
@@ -16,6 +17,7 @@ pub struct Past<'a, T> {
     next: usize,
     ghost room: { held ≤ length places.now },
     ghost within: { next ≤ held },
+    // until it has gone round, the next place is the first that holds none
     ghost round: { held < length places.now → next ≡ held },
 }
 
