@@ -22,9 +22,9 @@ returns g c =
     let shown = with_items_is c.in_ok-space.space c.send-call.new.buf long
     ∙ c.send-call.ensures.buffer
     ∙ ap (λ (b : List ℕ). left (send_refusal m.writing o text (length b)) (places (m.writing.frame (label_of o p.vars.item text) p.vars.toggle p.service) n ++ drop (21 * n) b) b) handed in
-    let left_so = c.send-call.ensures.vars
+    let left_so = c.send-call.ensures.after.vars
     ∙ ap (λ (b : List ℕ). left (send_refusal m.writing o text (length b)) (record { toggle = not p.vars.toggle; item = p.vars.item; since = false }) p.vars) handed in
-    let served = c.send-call.ensures.service in (
+    let served = c.send-call.ensures.after.service in (
       (λ i. with_buffer (sent_line (said i)) (shown i)),
       (λ i. record { vars = left_so i; service = served i; shown = p.shown }),
     )
