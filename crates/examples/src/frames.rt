@@ -82,11 +82,7 @@ fn the_sill_on_dab(rt: HostRuntime) {
 // How many frames a label over a text has on FM, where it fits.
 fn frames_of(text: &[u8]) -> Option<usize> {
     let label = sealed(text, &[]).ok()?;
-    if Fm::fits(&label) {
-        Some(Fm::count(&label))
-    } else {
-        None
-    }
+    Fm::fits(&label).then(|| Fm::count(&label))
 }
 
 #[test]

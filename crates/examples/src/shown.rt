@@ -84,7 +84,10 @@ fn old_markers_on_dab(rt: HostRuntime) {
         Ok(3)
     );
     assert_eq!(rt; harbour.hear_all(&[0, 2]), 0);
-    assert_eq!(rt; harbour.send(b"The fuel berth is open till ten", &[]), Ok(3));
+    assert_eq!(rt;
+        harbour.send(b"The fuel berth is open till ten", &[]),
+        Ok(3)
+    );
     assert_eq!(rt; harbour.hear_all(&[0, 1]), 0);
     assert_eq!(rt; harbour.hear_all(&[2, 0, 1, 2]), 1);
     assert!(rt; harbour.holds(56, b""));
