@@ -1,9 +1,10 @@
 -- FM shows the laws of every carrier.
-use Rattle.std.specs.Prelude.{◌≡◌, ℕ, suc, ◌+◌, ◌/◌, ◌%◌, ◌<◌, ◌≤◌, Bool, true, false, cond, ◌&&◌, List, [], ◌∷◌, length, is_some, Some, None, ◌==◌, refl}
+use Rattle.std.specs.Prelude.{◌≡◌, ℕ, suc, ◌+◌, ◌/◌, ◌%◌, ◌<◌, ◌≤◌, Bool, true, false, cond, ◌&&◌, List, [], ◌∷◌, length, is_some, Some, None, Option, ◌==◌, refl}
 use Rattle.std.proofs.Common.{sym, ap, subst, ◌∙◌, ⊎_elim, arith}
 use Rattle.std.proofs.lemmas.Bool.Decides.{nat_tests}
 use Rattle.std.proofs.lemmas.Grind.{common_steps}
 use Rattle.std.proofs.lemmas.Bool.{cases_lt, cases_eq}
+use Rattle.label.specs.declared.refusal.Refusal.{Refusal}
 use Rattle.label.specs.declared.refusal.Refusal.TheVariants.{WrongSize, UnusableGroup}
 use Rattle.label.specs.declared.tag.Tag.{Tag}
 use Rattle.label.specs.Label.{Label}
@@ -16,11 +17,12 @@ use Rattle.taking.specs.Events.{Event, piece, tags, aside, on_event, completed_h
 use Rattle.taking.specs.Segments.{Held, numbered}
 use Rattle.taking.specs.Taking.{Tags, Taken, on_text, on_tags}
 use Rattle.taking.proofs.Carried.{hears, tags_after}
-use Rattle.taking.proofs.Idling.{Still, still_same, still_refused, still_answer, still_cond, still_text, still_tags}
+use Rattle.taking.proofs.Idling.{Still, still_same, still_refused, still_answer, still_text, still_tags}
 use Rattle.taking.proofs.Joining.{Part, Has, segment_pieces}
-use Rattle.taking.proofs.Telling.{Tells, tells_cond, tells_refused, tells_other, tells_text, tells_tags}
+use Rattle.taking.proofs.Outcomes.{holds_cond}
+use Rattle.taking.proofs.Telling.{Tells, tells_refused, tells_other, tells_text, tells_tags}
 use Rattle.fm.specs.Frames.{last_segment, segment, text_frame, announcing_frame, sent_tags, first_tag, second_tag, bits_frame, tags_frame, fm_frame}
-use Rattle.fm.specs.Taking.{FmState, group_of, version_of, own_bits, announces, ert_flag, usable, lifted, with_group, has_learnt, text_toggle, text_piece, read_bits, unpacked, fm_step, fm, fm_air, fm_event}
+use Rattle.fm.specs.Taking.{FmState, group_of, version_of, own_bits, announces, ert_flag, usable, learns, lifted, with_group, step_a, has_learnt, text_toggle, text_piece, read_bits, unpacked, fm_step, fm, fm_air, fm_event}
 use Rattle.fm.specs.Text.{fm_segments, fm_pieces}
 use Rattle.fm.specs.Aired.{fm_airs}
 use Rattle.fm.specs.Bits.{fm_fitting, tags_read, bits_small}
@@ -140,6 +142,18 @@ module _ (l : Label) (t : Bool) (v : ℕ) (z : Sendable fm l) (short : length l.
       (Part fm_segments l.text (last_of l) (segment l.text) so) (Has fm_segments l.text (last_of l) (segment l.text) so)
       (segment_pieces fm_segments l.text (last_of l) (segment l.text) so) (fm_airs l t z few) s ns b u
 
+-- what holds of each answer that a step may give holds of the step
+module _ (s : FmState) (f : List ℕ) (H : Outcome FmState → Type 0) (passed : H (answered PassedOver s)) (kept : (g : Option ℕ) → H (answered Kept (with_group s g))) (declined : (x : Refusal) → H (refused x))
+    (text : H (lifted s (on_text fm_pieces s.core (text_toggle f) (text_piece f)))) (own_tags : H (lifted s (on_tags fm_pieces s.core None (unpacked (read_bits f))))) where
+  learning : H (learns s f)
+  learning = holds_cond H (ert_flag f) _ _ (kept None) (holds_cond H (own_bits f % 2 == 0 && usable (own_bits f / 2)) _ _ (kept (Some (own_bits f / 2))) (declined UnusableGroup))
+
+  of_a : H (step_a s f)
+  of_a = holds_cond H (group_of f == 2) _ _ text (holds_cond H (announces f) _ _ learning (holds_cond H (has_learnt s.group (group_of f)) _ _ own_tags passed))
+
+  of_step : H (fm_step s f)
+  of_step = holds_cond H (length f == 8) _ _ (holds_cond H (version_of f == 0) _ _ of_a passed) (declined WrongSize)
+
 -- the states that follow
 still_lifted : (s : FmState) (r : Outcome (Taken (Held (List ℕ)))) → Still s.core r → Still s (lifted s r)
 still_lifted s (answered a u) h = still_answer s a (record { core = u; group = s.group }) (lift a (h a u refl))
@@ -154,17 +168,9 @@ still_lifted s (refused x) h = still_refused s x
 
 fm_still : (s : FmState) (f : List ℕ) → Still s (fm_step s f)
 fm_still s f =
-    still_cond s (length f == 8) _ _
-    (still_cond s (version_of f == 0) _ _
-    (still_cond s (group_of f == 2) _ _
+    of_step s f (Still s) (still_same s PassedOver) (λ g. still_answer s Kept _ tt) (still_refused s)
     (still_lifted s _ (still_text fm_pieces s.core (text_toggle f) (text_piece f)))
-    (still_cond s (announces f) _ _
-    (still_cond s (ert_flag f) _ _ (still_answer s Kept _ tt) (still_cond s (own_bits f % 2 == 0 && usable (own_bits f / 2)) _ _ (still_answer s Kept _ tt) (still_refused s UnusableGroup)))
-    (still_cond s (has_learnt s.group (group_of f)) _ _
     (still_lifted s _ (still_tags fm_pieces s.core None (unpacked (read_bits f))))
-    (still_same s PassedOver))))
-    (still_same s PassedOver))
-    (still_refused s WrongSize)
 
 fits_parts : (l : Label) → Sendable fm l → (length l.text ≤ 64) × (length l.tags ≤ 2)
 fits_parts l z = grind (arith, nat_tests)
@@ -180,17 +186,9 @@ tells_lifted s (refused x) h w e = tells_refused fm.told x w e
 
 fm_tells : (s : FmState) (f : List ℕ) → Tells fm.told (fm_step s f)
 fm_tells s f =
-    tells_cond fm.told (length f == 8) _ _
-    (tells_cond fm.told (version_of f == 0) _ _
-    (tells_cond fm.told (group_of f == 2) _ _
+    of_step s f (Tells fm.told) (tells_other fm.told PassedOver s (λ e. cc)) (λ g. tells_other fm.told Kept _ (λ e. cc)) (tells_refused fm.told)
     (tells_lifted s _ (tells_text fm_pieces s.core (text_toggle f) (text_piece f)))
-    (tells_cond fm.told (announces f) _ _
-    (tells_cond fm.told (ert_flag f) _ _ (tells_other fm.told Kept _ (λ e. cc)) (tells_cond fm.told (own_bits f % 2 == 0 && usable (own_bits f / 2)) _ _ (tells_other fm.told Kept _ (λ e. cc)) (tells_refused fm.told UnusableGroup)))
-    (tells_cond fm.told (has_learnt s.group (group_of f)) _ _
     (tells_lifted s _ (tells_tags fm_pieces s.core None (unpacked (read_bits f))))
-    (tells_other fm.told PassedOver s (λ e. cc)))))
-    (tells_other fm.told PassedOver s (λ e. cc)))
-    (tells_refused fm.told WrongSize)
 
 pub fm_lawful : Lawful fm
 fm_lawful = record {
