@@ -1,7 +1,9 @@
 // The past list: the newest entries of any kind, over places that the caller lends.
 #![tactic(auto)]
 
-ghost use Rattle.std.specs.Prelude.{◌≡◌, ◌<◌, ◌≤◌, [], ◌∷◌, length, take};
+ghost use Rattle.std.specs.Prelude.{◌≡◌, ◌<◌, ◌≤◌, [], ◌∷◌, length, reverse, take};
+ghost use Rattle.std.specs.List.{slice_get};
+ghost use Rattle.std.specs.Option.{option_map};
 
 #[cfg(test)]
 mod tests;
@@ -21,9 +23,14 @@ pub struct Past<'a, T> {
     ghost round: { held < length places.now → next ≡ held },
 }
 
+// The i-th from the end, from 0, the last.
+fn from_end<T>(xs: &[T], i: usize) -> Option<&T>
+    ensures { option_map (λ x. x.now) result ≡ slice_get (reverse xs.now) i }
+{
+    xs.get(xs.len().checked_sub(1)?.checked_sub(i)?)
+}
+
 impl<'a, T: Drop> Past<'a, T> {
-    ghost use Rattle.std.specs.Option.{option_map};
-    ghost use Rattle.std.specs.List.{slice_get};
     ghost use Rattle.past.specs.Entries.{holding, empty, added};
 
     // No entries yet.
@@ -71,7 +78,10 @@ impl<'a, T: Drop> Past<'a, T> {
         ensures { option_map (λ x. x.now) result ≡ slice_get (holding self.now).entries i }
     {
         let (newer, older) = self.taken().split_at(self.next);
-        newer.iter().rev().chain(older.iter().rev()).nth(i)
+        if i < newer.len() {
+            return from_end(newer, i);
+        }
+        from_end(older, i - newer.len())
     }
 }
 
