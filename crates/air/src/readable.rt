@@ -1,6 +1,6 @@
 use std::fmt;
 
-// A text as it can be read: bytes that are no ASCII as \xHH.
+// A text as it can be read: bytes that are no ASCII as \xHH. (escape_ascii writes small digits, and escapes quotes too.)
 #[derive(Clone, Copy, Debug)]
 pub struct Readable<'a>(pub &'a [u8]);
 

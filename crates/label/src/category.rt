@@ -35,8 +35,5 @@ impl Category {
 pub fn is_silent(class: u8) -> bool
     ensures { result ≡ silent class }
 {
-    match Category::of(class) {
-        None | Some(Category::Dummy) => true,
-        Some(_) => false,
-    }
+    matches!(Category::of(class), None | Some(Category::Dummy))
 }

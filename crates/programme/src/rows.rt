@@ -34,6 +34,7 @@ fn trim_end(s: &[u8]) -> &[u8]
     front
 }
 
+// Spaces only: trim_ascii drops tabs too.
 pub(crate) fn trim(s: &[u8]) -> &[u8]
     ensures { result.now ≡ trimmed s.now }
 {

@@ -93,7 +93,7 @@ fn announcement(heap: Global, said: &[u8]) -> Result<Composed, Fault>
     })
 }
 
-// The label that an entry is sent as, where there is anything to send.
+// The label that an entry is sent as, where there is anything to send: an Option outside, since nothing to send is no fault.
 pub fn compose(heap: Global, entry: Entry) -> Option<Result<Composed, Fault>>
     ensures label { Sends (said_by entry.entry) result }
     ensures marks { MarksParts (said_by entry.entry) result }

@@ -11,7 +11,7 @@ use crate::pieces::Pieces;
 use crate::segment::Segment;
 use arrayvec::ArrayVec;
 
-// The text ends in this segment.
+// The text ends in this segment. (A closure for is_some_and would want a contract of its own.)
 fn ends<S: Segment<N>, const N: usize>(held: &Option<S>) -> bool
     ensures { result ≡ ends_at S.segments (option_map S.meant held.now) }
 {
@@ -21,7 +21,7 @@ fn ends<S: Segment<N>, const N: usize>(held: &Option<S>) -> bool
     }
 }
 
-// The text ends in one of these segments.
+// The text ends in one of these segments. (In two steps: a chain over a part of the row does not prove in one.)
 fn any_ends<S: Segment<N>, const N: usize>(segments: &[Option<S>]) -> bool
     ensures { result ≡ list_any (λ o. ends_at S.segments (option_map S.meant o)) segments.now }
 {

@@ -68,10 +68,7 @@ fn put(row: &mut Row<Letter, 3>, number: usize, byte: u8) {
 }
 
 fn has_text(row: &Row<Letter, 3>, text: &[u8]) -> bool {
-    match row.text() {
-        None => false,
-        Some(own) => own.as_slice() == text,
-    }
+    matches!(row.text(), Some(own) if own.as_slice() == text)
 }
 
 #[test]
