@@ -3,7 +3,7 @@ use label::part::is_deletion;
 use label::refusal::Refusal;
 use label::sealed::Draft;
 use label::tag::Tag;
-use label::{draft, part, refusal};
+use label::{draft, part};
 use std::test::Fail;
 
 // What opening a draft over a text answers, by the refusal's number.

@@ -3,7 +3,6 @@ use carrier::airing::Airing;
 use carrier::carrier::Carrier;
 use dab::dab::Dab;
 use fm::fm::Fm;
-use label::refusal;
 use label::refusal::Refusal;
 use label::sealed::Sealed;
 use label::tag::ItemBits;

@@ -4,7 +4,6 @@ use carrier::answer::Answer;
 use carrier::carrier::Carrier;
 use carrier::writing::PLACE;
 use display::shown::Display;
-use label::refusal;
 use label::refusal::Refusal;
 use label::tag::Tag;
 use station::station::Station;

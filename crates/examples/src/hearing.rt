@@ -1,12 +1,10 @@
 ghost use Rattle.std.specs.Prelude.{◌≤◌};
 
 use arrayvec::ArrayVec;
-use carrier::answer;
 use carrier::answer::Answer;
 use carrier::carrier::Carrier;
 use dab::dab::Dab;
 use fm::fm::Fm;
-use label::refusal;
 use label::refusal::Refusal;
 
 // What taking a frame answers, by the answer's or the refusal's number.
