@@ -13,7 +13,8 @@ pub const PLACE: usize = 21;
 
 const LONGEST: usize = PLACE - 1;
 
-// Whether a frame may be written, by whether the label fits and how many frames it has.
+// Whether a frame may be written, by whether the label fits and how many frames it has. (A function of the trait, which asks
+// for both itself, would lead from a carrier's `write` back to it.)
 pub fn may_write(
     fits: bool,
     count: usize,
