@@ -13,8 +13,7 @@ pub const PLACE: usize = 21;
 
 const LONGEST: usize = PLACE - 1;
 
-// Whether a frame may be written, by whether the label fits and how many frames it has. (A function of the trait, which asks
-// for both itself, would lead from a carrier's `write` back to it.)
+// Whether a frame may be written, by whether the label fits and how many frames it has.
 pub fn may_write(
     fits: bool,
     count: usize,
