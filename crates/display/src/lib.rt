@@ -2,6 +2,7 @@
 #![tactic(auto)]
 
 pub mod display;
+mod marked;
 pub mod shown;
 mod table;
 pub mod told;

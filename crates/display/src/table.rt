@@ -1,14 +1,13 @@
-ghost use Rattle.std.specs.Prelude.{◌≡◌, ◌<◌, ◌≤◌, ◌&&◌, length, if◌then◌else◌, nat_eq, Some};
+ghost use Rattle.std.specs.Prelude.{◌≡◌, ◌<◌, ◌&&◌, if◌then◌else◌, nat_eq, Some};
 ghost use Rattle.label.specs.Classes.{item_class};
 ghost use Rattle.label.specs.Tags.{deletion};
 ghost use Rattle.carrier.specs.Aired.{told_label};
 ghost use Rattle.agreement.specs.Rules.{emptied, breaks, rule_1, rule_2, rule_3, on_label};
 ghost use Rattle.display.specs.Held.{held, toggle_of, table_of, ChangesRows, empties, is_stored};
 
+use crate::marked::Marked;
 use arrayvec::ArrayVec;
 use carrier::told::Told;
-use label::category::Category;
-use label::part::is_deletion;
 use label::tag::ItemBits;
 
 // For each class a text, empty for nothing, and the item bits of the last complete label.
@@ -51,9 +50,8 @@ impl ClassTable {
     fn rule_2(&mut self, told: &Told)
         ensures { ChangesRows self.old self.new (rule_2 (told_label told.now)) }
     {
-        let text = told.text.as_slice();
         for tag in told.tags.as_slice() {
-            self.delete(tag.class, tag.part(text).unwrap());
+            self.delete(Marked::by(*tag, told));
         }
     }
 
@@ -61,9 +59,8 @@ impl ClassTable {
     fn rule_3(&mut self, told: &Told)
         ensures { ChangesRows self.old self.new (rule_3 (told_label told.now)) }
     {
-        let text = told.text.as_slice();
         for tag in told.tags.as_slice() {
-            self.store(tag.class, tag.part(text).unwrap(), told.item.running);
+            self.store(Marked::by(*tag, told), told.item.running);
         }
     }
 
@@ -76,24 +73,22 @@ impl ClassTable {
     }
 
     // Empties what a part deletes, if it is a deletion.
-    fn delete(&mut self, class: u8, part: &[u8])
-        requires { class < 64 }
-        ensures { ChangesRows self.old self.new (λ k old. emptied (deletion part.now && empties class k) old) }
+    fn delete(&mut self, marked: Marked<'_>)
+        ensures { ChangesRows self.old self.new (λ k old. emptied (deletion marked.entry.part.now && empties marked.entry.class k) old) }
     {
-        if is_deletion(part) {
-            self.clear_for(class);
+        if marked.is_deletion() {
+            self.clear_for(marked);
         }
     }
 
-    // What a deletion in a class empties.
-    fn clear_for(&mut self, class: u8)
-        requires { class < 64 }
-        ensures { ChangesRows self.old self.new (λ k old. emptied (empties class k) old) }
+    // What a deletion in its class empties.
+    fn clear_for(&mut self, marked: Marked<'_>)
+        ensures { ChangesRows self.old self.new (λ k old. emptied (empties marked.entry.class k) old) }
     {
-        if is_item(class) {
+        if marked.is_item() {
             self.clear_items(); // the old song as a whole
         } else {
-            self.rows[class as usize].clear();
+            self.rows[marked.class as usize].clear();
         }
     }
 
@@ -109,28 +104,18 @@ impl ClassTable {
         }
     }
 
-    // Stores a part that is no deletion, of an Item class only while the item runs.
-    fn store(&mut self, class: u8, part: &[u8], running: bool)
-        requires class { class < 64 }
-        requires room { length part.now ≤ 128 }
-        ensures { ChangesRows self.old self.new (λ k old. if nat_eq class k && is_stored class part.now running then part.now else old) }
+    // Stores a part, if it is one that is stored.
+    fn store(&mut self, marked: Marked<'_>, running: bool)
+        ensures { ChangesRows self.old self.new (λ k old. if nat_eq marked.entry.class k && is_stored marked.entry.class marked.entry.part.now running then marked.entry.part.now else old) }
     {
-        if !is_deletion(part) && (!is_item(class) || running) {
-            self.put(class, part);
+        if marked.is_stored(running) {
+            self.put(marked);
         }
     }
 
-    fn put(&mut self, class: u8, text: &[u8])
-        requires class { class < 64 }
-        requires room { length text.now ≤ 128 }
-        ensures { ChangesRows self.old self.new (λ k old. if nat_eq class k then text.now else old) }
+    fn put(&mut self, marked: Marked<'_>)
+        ensures { ChangesRows self.old self.new (λ k old. if nat_eq marked.entry.class k then marked.entry.part.now else old) }
     {
-        self.rows[class as usize] = ArrayVec::try_from(text).unwrap();
+        self.rows[marked.class as usize] = ArrayVec::try_from(marked.part).unwrap();
     }
-}
-
-fn is_item(class: u8) -> bool
-    ensures { result ≡ item_class class }
-{
-    Category::of(class) == Some(Category::Item)
 }

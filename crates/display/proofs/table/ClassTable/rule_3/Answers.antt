@@ -2,14 +2,11 @@ use Rattle.std.proofs.Common.{sym, refl}
 use Rattle.carrier.specs.Aired.{told_label}
 use Rattle.display.specs.Held.{held}
 use Rattle.display.proofs.Tags.{none_stored}
-use Rattle.display.proofs.Steps.{part_found, stored_next}
+use Rattle.display.proofs.Steps.{stored_next}
 use Rattle.display.proofs.table.ClassTable.rule_3.Goals as goal
 
 pub loop-tag-init : goal.loop-tag-init
 loop-tag-init c = record { rows = λ k. sym (none_stored (told_label c.args.told.now) k (held c.args.self.now k)); last = refl }
 
-pub unwrap-requires : goal.unwrap-requires
-unwrap-requires c = part_found c.args.told.now _ _ c.as_slice-text.ensures.value c.as_slice-tag-items.ensures.value _ _ c.loop-tag-test.true _ _ c.part.ensures
-
 pub loop-tag-preserved : goal.loop-tag-preserved
-loop-tag-preserved c = stored_next c.args.told.now _ _ c.as_slice-text.ensures.value c.as_slice-tag-items.ensures.value _ _ c.loop-tag-test.true _ _ _ _ (rw c.unwrap.ensures at c.part.ensures).1 c.loop-tag.invariant c.store.ensures
+loop-tag-preserved c = stored_next c.args.told.now _ c.as_slice-tag-items.ensures.value _ _ c.loop-tag-test.true _ _ _ _ _ c.by.ensures.class c.by.ensures.part c.loop-tag.invariant c.store.ensures
