@@ -4,6 +4,7 @@
 pub mod as_carrier;
 mod command;
 pub mod dab;
+mod filled;
 mod frame;
 mod head;
 mod load;

@@ -1,6 +1,7 @@
 ghost use Rattle.std.specs.Prelude.{◌≡◌, ◌≤◌, length};
 ghost use Rattle.dab.specs.Frames.{segment, last_segment, text_body, framed};
 
+use crate::filled::Filled;
 use crate::frame::frame;
 use crate::load::Load;
 use crate::prefix::Prefix;
@@ -17,14 +18,9 @@ pub(crate) fn last_segment(len: usize) -> usize
 }
 
 // A text that goes out in segments.
-#[derive(Clone, Copy)]
-pub(crate) struct Text<'a> {
-    pub(crate) bytes: &'a [u8],
-    ghost some: { 1 ≤ length bytes.now },
-    ghost short: { length bytes.now ≤ 128 },
-}
+pub(crate) type Text<'a> = Filled<'a, 128>;
 
-impl<'a> Text<'a> {
+impl<'a> Filled<'a, 128> {
     // The number of its last segment.
     pub(crate) fn last(&self) -> usize
         ensures { result ≡ last_segment (length self.now.bytes.now) }

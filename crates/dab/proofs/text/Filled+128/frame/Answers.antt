@@ -1,5 +1,5 @@
 use Rattle.dab.specs.Frames.{text_body}
-use Rattle.dab.proofs.text.Text.frame.Goals as goal
+use Rattle.dab.proofs.text.Filled+128.frame.Goals as goal
 
 pub returns : goal.returns
 unfolding text_body
