@@ -35,6 +35,7 @@ impl Carrier for Dab {
 
     fn write(airing: &Airing<'_>, number: usize, space: &mut [u8]) -> Result<(), Refusal> {
         let label = airing.label;
+        // (A function of the trait that asks for both itself would lead back to this one.)
         may_write(
             Self::fits(label),
             Self::count(label),

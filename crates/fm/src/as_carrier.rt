@@ -32,6 +32,7 @@ impl Carrier for Fm {
     }
 
     fn write(airing: &Airing<'_>, number: usize, space: &mut [u8]) -> Result<(), Refusal> {
+        // (A function of the trait that asks for both itself would lead back to this one.)
         may_write(
             Self::fits(airing.label),
             Self::count(airing.label),
