@@ -104,21 +104,20 @@ def point_2():
 
 
 def point_3():
-    for row in where(r'\bfor \w+ in [^{]*\.\.|\bwhile \w'):
+    for row in where(r'\bfor \w+ in [^{\[(]*\.\.|\bwhile (?!let\b)\w'):
         yield ('a loop that counts', *row)
 
 
 def point_4():
     for row in where(r'\bfn (is_(same|equal|same_item|digit|standing|word)|are_same|same_\w+)\b'):
         yield ('equality or a test of a byte by hand', *row)
-    for row in where(r'\bfn (number|message|words|reason|parse|of|digit|line)\(|\bfn \w+_line\('):
+    for row in where(r'\bfn (number|message|words|reason|parse|of|digit|line)\(|\bfn (?!write_|read_|obey_)\w+_line\('):
         yield ('a conversion or words by hand', *row)
     for row in where(r'if \w+(\.\w+)? \{ 1 \} else \{ 0 \}|/ 256\) as u8|% 256\) as u8'):
         yield ('bits or bytes of a number by hand', *row)
-    for row in where(r'toggle: false,$'):
-        yield ('a value of zeros by hand', *row)
-    for row in where(r'^\s+class: 0,$'):
-        yield ('a value of zeros by hand', *row)
+    for path, lines in sources.items():
+        for m in re.finditer(r'toggle: false,\s+running: false|class: 0,\s+start: 0,', '\n'.join(lines)):
+            yield 'a value of zeros by hand', path, '\n'.join(lines)[:m.start()].count('\n') + 1, m.group(0).split(',')[0]
 
 
 def point_5():
