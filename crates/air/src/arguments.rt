@@ -40,7 +40,7 @@ impl fmt::Display for Misuse {
 
 impl Error for Misuse {}
 
-// A carrier by its name.
+// A carrier by its name. (The bench reads one too, with another error, and air does not stand on the bench.)
 #[derive(Clone, Copy, Debug)]
 pub enum CarrierName {
     Fm,

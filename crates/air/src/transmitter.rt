@@ -75,6 +75,7 @@ impl Transmitter {
     fn send<C: Carrier>(&mut self, ready: &Ready, report: &Report) -> anyhow::Result<()> {
         let frames = C::count(&ready.label);
         report.sent(&ready.composed, self.toggle, frames)?;
+        // frames are asked for by their number
         for number in 0..frames {
             match self.write::<C>(ready, number) {
                 Ok(place) => self.print(place.as_slice(), report)?,

@@ -34,6 +34,7 @@ fn parse_tag(class: &str, start: &str, extent: &str) -> Result<Tag, Fault> {
 }
 
 impl Wanted {
+    // (No FromStr: it takes three words.)
     fn parse(toggle: &str, service: &str, frame: &str) -> Result<Wanted, Fault> {
         Ok(Wanted {
             toggle: flag(toggle)?,
@@ -58,7 +59,7 @@ fn parse_write(
 }
 
 impl Command {
-    // The command that these words say.
+    // The command that these words say. (No TryFrom: it takes memory too.)
     pub fn parse(heap: Global, words: &[&str]) -> Result<Command, Fault> {
         match words {
             ["open", text] => Ok(Command::Open(bytes(heap, text)?)),

@@ -37,6 +37,7 @@ impl Bench {
         let label = &self.bench.label;
         match command {
             Command::Label(command) => self.bench.obey(heap, command),
+            // two posts of two types
             Command::At(Named::Fm, order) => self.fm.obey(heap, label, &order),
             Command::At(Named::Dab, order) => self.dab.obey(heap, label, &order),
         }
@@ -50,6 +51,7 @@ impl Console for Bench {
 
     ghost state = { bench_of };
 
+    // (As in the bench below, over the commands of this one.)
     fn obey_words(&mut self, heap: Global, words: &[&str]) -> Result<Reply, Fault> {
         let command = Command::parse(heap, words)?;
         self.obey(heap, command)

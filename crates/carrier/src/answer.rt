@@ -12,6 +12,7 @@ pub enum Answer {
 }
 
 impl Answer {
+    // (A method and no From: u8::from would not say which number it is.)
     pub fn number(self) -> u8
         ensures { result ≡ (answer_case self).number }
     {

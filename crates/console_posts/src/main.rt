@@ -1,4 +1,5 @@
-// The console: each line of standard input is answered by a line on standard output.
+// The console with stations and displays: each line of standard input is answered by a line on standard output. (It differs
+// from `console` in its bench alone.)
 #![tactic(auto)]
 
 use bench_posts::state::Bench;

@@ -25,6 +25,7 @@ fn take_byte(register: u16, byte: u8) -> u16
     ensures { result ≡ byte_in register byte }
 {
     let mut front = register ^ (u16::from(byte) << 8);
+    // eight times: nothing is counted through
     for _ in 0..8u8 {
         front = step(front);
     }

@@ -30,6 +30,7 @@ fn tag_bytes(tag: Tag) -> [u8; 3]
 }
 
 impl<'a> SentTags<'a> {
+    // (No From: a caller owes the bound.)
     fn of(tags: &'a [Tag]) -> SentTags<'a>
         requires { length tags.now ≤ 4 }
         ensures { result.tags.now ≡ sent_tags tags.now }

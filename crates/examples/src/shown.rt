@@ -48,18 +48,20 @@ fn items<C: Carrier + Drop>(rt: &impl Abort) {
     assert!(rt; harbour.holds(56, b""));
 }
 
+fn on<C: Carrier + Drop>(rt: &impl Abort) {
+    deletion_beside::<C>(rt);
+    deletion_alone::<C>(rt);
+    items::<C>(rt);
+}
+
 #[test]
 fn on_fm(rt: HostRuntime) {
-    deletion_beside::<Fm>(&rt);
-    deletion_alone::<Fm>(&rt);
-    items::<Fm>(&rt);
+    on::<Fm>(&rt);
 }
 
 #[test]
 fn on_dab(rt: HostRuntime) {
-    deletion_beside::<Dab>(&rt);
-    deletion_alone::<Dab>(&rt);
-    items::<Dab>(&rt);
+    on::<Dab>(&rt);
 }
 
 // FM: tags that waited for the old text do not cut the new one.

@@ -14,7 +14,8 @@ pub enum Category {
 }
 
 impl Category {
-    // The category of a class number; the numbers 54, 55 and those above 63 have none.
+    // The category of a class number; the numbers 54, 55 and those above 63 have none. (No TryFrom: a class without a category
+    // is no mistake.)
     pub fn of(class: u8) -> Option<Category>
         ensures { result ≡ category_of class }
     {

@@ -33,6 +33,7 @@ pub enum Refusal {
 }
 
 impl Refusal {
+    // (A method and no From: u8::from would not say which number it is.)
     pub fn number(self) -> u8
         ensures { result ≡ (case_of self).number }
     {

@@ -6,6 +6,7 @@ use std::error::Error;
 use std::fmt;
 
 impl Refusal {
+    // (Apart from Display, so that what is written has one exit.)
     fn words(self) -> &'static str
         ensures { result.now ≡ words_of self }
     {

@@ -21,6 +21,7 @@ pub enum Fault {
 }
 
 impl Fault {
+    // (Apart from Display, so that what is written has one exit.)
     fn words(self) -> &'static str
         ensures { result.now ≡ message_of self }
     {

@@ -27,6 +27,7 @@ pub trait Segment<const N: usize>: Drop {
     fn ends(&self) -> bool
         ensures { result ≡ segments.ends (meant self.now) };
 
+    // (By name, and not PartialEq: it is the rules' own test.)
     fn is_same(&self, other: &Self) -> bool
         ensures { result ≡ segments.same (meant self.now) (meant other.now) };
 
