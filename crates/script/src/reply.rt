@@ -46,6 +46,7 @@ impl fmt::Display for Hex<'_> {
     }
 }
 
+// A refusal by its number.
 #[derive(Clone, Copy)]
 struct Refused(Refusal);
 
@@ -57,6 +58,7 @@ impl fmt::Display for Refused {
     }
 }
 
+// What came of a call that gives nothing.
 #[derive(Clone, Copy)]
 struct Called(Result<(), Refusal>);
 
@@ -71,7 +73,7 @@ impl fmt::Display for Called {
     }
 }
 
-// What a call counted, behind its word.
+// What came of a call that counts: the count behind the call's word.
 #[derive(Clone, Copy)]
 struct Counted<'a>(&'a str, Result<usize, Refusal>);
 
