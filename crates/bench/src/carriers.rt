@@ -13,6 +13,7 @@ use label::refusal::Refusal;
 use label::sealed::Sealed;
 use label::tag::ItemBits;
 use script::fault::Fault;
+use std::str::FromStr;
 
 // The carriers by their names.
 #[derive(Clone, Copy)]
@@ -46,17 +47,24 @@ impl Wanted {
     }
 }
 
-impl Named {
-    pub fn parse(word: &str) -> Result<Named, Fault>
-        ensures { MatchResult result (λ c. word.now ≡ name_of c) (λ e. (e ≡ Wrong) × ((c : Named) → word.now ≢ name_of c)) }
-    {
+// A carrier by its name alone.
+impl FromStr for Named {
+    ghost use Rattle.bench.specs.declared.carriers.Named.{Named};
+
+    type Err = Fault;
+
+    ghost from_str_gives = { λ word r. MatchResult r (λ c. word ≡ name_of c) (λ e. (e ≡ Wrong) × ((c : Named) → word ≢ name_of c)) };
+
+    fn from_str(word: &str) -> Result<Named, Fault> {
         match word {
             "fm" => Ok(Named::Fm),
             "dab" => Ok(Named::Dab),
             _ => Err(Fault::Wrong),
         }
     }
+}
 
+impl Named {
     // Each call is switched on the name: what it calls has no value that could be picked once.
     pub fn fits(self, label: &Sealed) -> bool
         ensures { result ≡ (writing_of self).fits (sealed_outline label.now) }

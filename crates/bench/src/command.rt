@@ -51,7 +51,7 @@ fn parse_write(
     text: Option<Vec<u8>>,
 ) -> Result<Command, Fault> {
     Ok(Command::Write(Writing {
-        carrier: Named::parse(carrier)?,
+        carrier: carrier.parse()?,
         frame,
         size: size(space)?,
         text,
@@ -66,8 +66,8 @@ impl Command {
             ["tag", class, start, extent] => Ok(Command::Tag(parse_tag(class, start, extent)?)),
             ["seal"] => Ok(Command::Seal),
             ["reopen"] => Ok(Command::Reopen),
-            ["fits", carrier] => Ok(Command::Fits(Named::parse(carrier)?)),
-            ["count", carrier] => Ok(Command::Count(Named::parse(carrier)?)),
+            ["fits", carrier] => Ok(Command::Fits(carrier.parse()?)),
+            ["count", carrier] => Ok(Command::Count(carrier.parse()?)),
             ["write", carrier, toggle, service, number, size] => {
                 parse_write(carrier, Wanted::parse(toggle, service, number)?, size, None)
             }

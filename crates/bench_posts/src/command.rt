@@ -43,7 +43,7 @@ fn send(size: &str, text: Option<Vec<u8>>) -> Result<Order, Fault> {
 }
 
 fn at(carrier: &str, order: Order) -> Result<Command, Fault> {
-    Ok(Command::At(Named::parse(carrier)?, order))
+    Ok(Command::At(carrier.parse()?, order))
 }
 
 impl Command {

@@ -1,41 +1,35 @@
 -- What the library reads and writes in hexadecimal is what the specification says.
-use Rattle.std.proofs.Common.{◌≡◌, ℕ, zero, suc, ◌+◌, ◌*◌, ◌/◌, ◌%◌, ◌<◌, ◌==◌, Bool, true, false, cond, ◌&&◌, inl, inr, List, [], ◌∷◌, length, slice_index, Some, None, Ok, Err, Option, Result, refl, sym, ap, subst, ◌∙◌, ◌⊎◌, arith}
-use Rattle.std.proofs.lemmas.Bool.{and_parts, cases_lt, cases_eq, eqb-true, eq-eqb, ne_eqb}
+use Rattle.std.proofs.Common.{◌≡◌, ℕ, ◌+◌, ◌-◌, ◌*◌, ◌/◌, ◌%◌, ◌^◌, ◌<◌, ◌==◌, true, false, cond, ◌&&◌, inl, inr, List, [], ◌∷◌, ◌++◌, length, get_or, take, Some, None, Ok, Err, Option, Result, refl, sym, ap, subst, ◌∙◌, ◌⊎◌, arith}
+use Rattle.std.proofs.lemmas.Bool.{cases_eq, eq-eqb, ne_eqb}
 use Rattle.std.proofs.lemmas.Bool.Decides.{nat_tests}
+use Rattle.std.proofs.lemmas.Fmt.{hex_byte}
+use Rattle.std.proofs.lemmas.Grind.{flat_map-append}
+use Rattle.std.proofs.lemmas.List.{take_more}
+use Rattle.std.specs.Fmt.{padded_integral, format_spec, digits as std_digits, digit_glyph}
 use Rattle.std.specs.Result.{result_ok, IsErrAnd}
 use Rattle.std.specs.Global.{Vec}
-use Rattle.hex.specs.Hex.{lower_digits, encode_with, encode_lower, hex_digit_value, digit_or_error, decode_pairs, decode_of, ◌>>=◌}
+use Rattle.hex.specs.Hex.{hex_digit_value, digit_or_error, decode_pairs, decode_of, ◌>>=◌}
 use Rattle.hex.specs.declared.error.FromHexError.{FromHexError}
 use Rattle.hex.specs.declared.error.FromHexError.TheVariants.{InvalidHexCharacter, OddLength, InvalidStringLength, OutOfMemory}
 use Rattle.script.specs.declared.fault.Fault.{Fault}
 use Rattle.script.specs.Bytes.{Faulty, Reads, fault_of}
-use Rattle.script.specs.Digits.{digit_of, lower_digit, hex_of, and_then, byte_of, with_byte, hex_bytes, bytes_of, printed}
+use Rattle.script.specs.Digits.{digit_of, lower_digit, hex_pair, hex_of, and_then, byte_of, with_byte, hex_bytes, bytes_of}
 
--- the library's table has the digits of the specification
-abbrev all_same : ℕ → Bool
-all_same zero = true
-all_same (suc n) = (slice_index lower_digits n == lower_digit n) && all_same n
+glyph : (v : ℕ) → digit_glyph false v ≡ lower_digit v
+glyph v = grind (arith, nat_tests)
 
-digit_at : (n v : ℕ) → all_same n ≡ true → v < n → slice_index lower_digits v ≡ lower_digit v
-digit_at zero v h lt = absurd (omega arith)
-digit_at (suc n) v h lt =
-    let parts = and_parts (slice_index lower_digits n == lower_digit n) (all_same n) h in
-    elim (cases_lt v n) [
-      | inl below ↦ digit_at n v parts.1 below
-      | inr top ↦
-          let e : v ≡ n = omega arith in
-          rw e (eqb-true (slice_index lower_digits n) (lower_digit n) parts.0)
-    ]
+-- what `{:02x}` writes of a byte
+pair_printed : (b : ℕ) → b < 256 → padded_integral (format_spec 32 0 4 2 (2 ^ 64 - 1)) false [] (std_digits 16 false b) ≡ hex_pair b
+pair_printed b h =
+    let high = glyph (b / 16) in
+    let low = glyph (b % 16) in
+    hex_byte false b h ∙ rw (high, low) refl
 
-pub encoded : (bs : List ℕ) → ((i : ℕ) → slice_index bs i < 256) → encode_lower bs ≡ hex_of bs
-unfolding encode_with
-encoded [] h = refl
-encoded (b ∷ bs) h =
-    let small : b < 256 = h 0 in
-    let high : slice_index lower_digits (b / 16) ≡ lower_digit (b / 16) = digit_at 16 (b / 16) refl (omega arith) in
-    let low : slice_index lower_digits (b % 16) ≡ lower_digit (b % 16) = digit_at 16 (b % 16) refl (omega arith) in
-    let rest = encoded bs (λ i. h (suc i)) in
-    rw (high, low, rest) refl
+-- one more byte of those that are printed
+pub one_more : (bs : List ℕ) (i : ℕ) → i < length bs → get_or bs i 0 < 256 → hex_of (take i bs) ++ padded_integral (format_spec 32 0 4 2 (2 ^ 64 - 1)) false [] (std_digits 16 false (get_or bs i 0)) ≡ hex_of (take (i + 1) bs)
+one_more bs i h small =
+    ap (λ x. hex_of (take i bs) ++ x) (pair_printed (get_or bs i 0) small)
+    ∙ sym (ap hex_of (take_more bs i 0 h) ∙ flat_map-append hex_pair (take i bs) (get_or bs i 0 ∷ []))
 
 digit_same : (c : ℕ) → hex_digit_value c ≡ digit_of c
 digit_same c = grind (arith, nat_tests)
@@ -57,10 +51,6 @@ pairs i (high ∷ (low ∷ ds)) =
     ∙ ap (λ (o : Option ℕ). and_then (and_then o (λ x. and_then (hex_digit_value low) (λ y. Some (x * 16 + y)))) (λ b. with_byte b (result_ok (decode_pairs (i + 2) ds)))) (digit_same high)
     ∙ ap (λ (o : Option ℕ). and_then (and_then (digit_of high) (λ x. and_then o (λ y. Some (x * 16 + y)))) (λ b. with_byte b (result_ok (decode_pairs (i + 2) ds)))) (digit_same low)
     ∙ ap (λ (o : Option (List ℕ)). and_then (byte_of high low) (λ b. with_byte b o)) (pairs (i + 2) ds)
-
-pub printed_some : (bs : List ℕ) → (length bs == 0) ≡ false → printed bs ≡ hex_of bs
-printed_some [] h = cc h
-printed_some (b ∷ bs) h = refl
 
 odd : (ds : List ℕ) → length ds % 2 ≡ 1 → hex_bytes ds ≡ None
 unfolding hex_bytes

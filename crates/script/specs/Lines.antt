@@ -15,13 +15,16 @@ abbrev pub call_line : Result (Unit {0}) Refusal → List ℕ
 call_line (Ok x) = codes "ok"
 call_line (Err e) = refused_line e
 
+-- a count stands behind a word, parted from it by a space
+abbrev pub counted_line : List ℕ → Result ℕ Refusal → List ℕ
+counted_line word (Ok n) = word ++ (32 ∷ decimal n)
+counted_line word (Err e) = refused_line e
+
 abbrev pub sent_line : Result ℕ Refusal → List ℕ
-sent_line (Ok n) = codes "sent " ++ decimal n
-sent_line (Err e) = refused_line e
+sent_line call = counted_line (codes "sent") call
 
 abbrev pub text_line : Result ℕ Refusal → List ℕ
-text_line (Ok n) = codes "text " ++ decimal n
-text_line (Err e) = refused_line e
+text_line call = counted_line (codes "text") call
 
 abbrev pub taken_line : Result Answer Refusal → List ℕ
 taken_line (Ok a) = codes "answer " ++ decimal (answer_case a).number

@@ -59,7 +59,7 @@ pub trait Console {
             return Ok(None);
         }
         match obey_line(self, heap, line) {
-            Ok(reply) => Ok(Some(reply.line(heap)?)),
+            Ok(reply) => Ok(Some(reply.to_string(heap)?)),
             Err(Fault::Wrong) => Ok(Some(String::from_str(heap, "error")?)),
             // a fault keeps no `AllocError`, since the libraries' own errors of memory keep none
             Err(Fault::Memory) => Err(AllocError),

@@ -1,11 +1,11 @@
-ghost use Rattle.std.specs.Prelude.{◌≡◌, IfOk, string_bytes};
+ghost use Rattle.std.specs.Prelude.{Some};
 ghost use Rattle.script.specs.Digits.{printed};
-ghost use Rattle.script.specs.Lines.{refused_line, call_line, sent_line, text_line, taken_line, record_line, with_buffer, reply_line};
+ghost use Rattle.script.specs.Lines.{refused_line, call_line, counted_line, reply_line};
 
 use carrier::answer::Answer;
 use front::record::Record;
 use label::refusal::Refusal;
-use std::alloc::{AllocError, Global};
+use std::fmt;
 
 // What a command answers.
 #[derive(Drop)]
@@ -28,106 +28,87 @@ pub enum Reply {
     Front(Record),
 }
 
-fn refused_line(heap: Global, refusal: Refusal) -> Result<String, AllocError>
-    ensures { IfOk result (λ s. string_bytes s ≡ refused_line refusal) }
-{
-    let number = refusal.number();
-    format!(in heap; "refused {number}")
-}
-
-fn call_line(heap: Global, call: Result<(), Refusal>) -> Result<String, AllocError>
-    ensures { IfOk result (λ s. string_bytes s ≡ call_line call) }
-{
-    match call {
-        Ok(()) => String::from_str(heap, "ok"),
-        Err(refusal) => refused_line(heap, refusal),
-    }
-}
-
-fn sent_line(heap: Global, call: Result<usize, Refusal>) -> Result<String, AllocError>
-    ensures { IfOk result (λ s. string_bytes s ≡ sent_line call) }
-{
-    match call {
-        Ok(count) => format!(in heap; "sent {count}"),
-        Err(refusal) => refused_line(heap, refusal),
-    }
-}
-
-fn text_line(heap: Global, call: Result<usize, Refusal>) -> Result<String, AllocError>
-    ensures { IfOk result (λ s. string_bytes s ≡ text_line call) }
-{
-    match call {
-        Ok(len) => format!(in heap; "text {len}"),
-        Err(refusal) => refused_line(heap, refusal),
-    }
-}
-
-fn taken_line(heap: Global, call: Result<Answer, Refusal>) -> Result<String, AllocError>
-    ensures { IfOk result (λ s. string_bytes s ≡ taken_line call) }
-{
-    match call {
-        Ok(answer) => {
-            let number = answer.number();
-            format!(in heap; "answer {number}")
-        }
-        Err(refusal) => refused_line(heap, refusal),
-    }
-}
-
-fn record_line(heap: Global, record: Record) -> Result<String, AllocError>
-    ensures { IfOk result (λ s. string_bytes s ≡ record_line «record») }
-{
-    match record {
-        Some(tenths) => format!(in heap; "reading {tenths}"),
-        None => String::from_str(heap, "dashes"),
-    }
-}
-
 // Bytes in hexadecimal, or `-` for none.
-fn printed(heap: Global, bytes: &[u8]) -> Result<String, AllocError>
-    ensures { IfOk result (λ s. string_bytes s ≡ printed bytes.now) }
-{
-    if bytes.is_empty() {
-        return String::from_str(heap, "-");
+#[derive(Clone, Copy)]
+struct Hex<'a>(&'a [u8]);
+
+impl fmt::Display for Hex<'_> {
+    ghost output = { λ hex. Some (printed hex.0.now) };
+
+    fn fmt<W: fmt::Write>(&self, f: &mut fmt::Formatter<W>) -> fmt::Result {
+        if self.0.is_empty() {
+            return f.write_str("-");
+        }
+        for &byte in self.0 {
+            write!(f, "{byte:02x}")?;
+        }
+        Ok(())
     }
-    hex::encode(heap, bytes)
 }
 
-// The buffer behind the words.
-fn with_buffer(heap: Global, words: String, space: &[u8]) -> Result<String, AllocError>
-    ensures { IfOk result (λ s. string_bytes s ≡ with_buffer (string_bytes words) space.now) }
-{
-    let shown = printed(heap, space)?;
-    format!(in heap; "{words} {shown}")
+// A refusal by its number.
+#[derive(Clone, Copy)]
+struct Refused(Refusal);
+
+impl fmt::Display for Refused {
+    ghost output = { λ refused. Some (refused_line refused.0) };
+
+    fn fmt<W: fmt::Write>(&self, f: &mut fmt::Formatter<W>) -> fmt::Result {
+        write!(f, "refused {}", self.0.number())
+    }
 }
 
-impl Reply {
-    // The reply as a line of text, without its end.
-    pub fn line(&self, heap: Global) -> Result<String, AllocError>
-        ensures { IfOk result (λ s. string_bytes s ≡ reply_line self.now) }
-    {
+// What came of a call that gives nothing.
+#[derive(Clone, Copy)]
+struct Called(Result<(), Refusal>);
+
+impl fmt::Display for Called {
+    ghost output = { λ called. Some (call_line called.0) };
+
+    fn fmt<W: fmt::Write>(&self, f: &mut fmt::Formatter<W>) -> fmt::Result {
+        match self.0 {
+            Ok(()) => f.write_str("ok"),
+            Err(refusal) => f.write(Refused(refusal)),
+        }
+    }
+}
+
+// What came of a call that counts: the count behind the call's word.
+#[derive(Clone, Copy)]
+struct Counted<'a>(&'a str, Result<usize, Refusal>);
+
+impl fmt::Display for Counted<'_> {
+    ghost output = { λ counted. Some (counted_line counted.0.now counted.1) };
+
+    fn fmt<W: fmt::Write>(&self, f: &mut fmt::Formatter<W>) -> fmt::Result {
+        match self.1 {
+            Ok(count) => write!(f, "{} {count}", self.0),
+            Err(refusal) => f.write(Refused(refusal)),
+        }
+    }
+}
+
+// The reply as a line of text, without its end.
+impl fmt::Display for Reply {
+    ghost output = { λ reply. Some (reply_line reply) };
+
+    fn fmt<W: fmt::Write>(&self, f: &mut fmt::Formatter<W>) -> fmt::Result {
         match self {
-            Reply::Call(call) => call_line(heap, *call),
-            Reply::Fits(true) => String::from_str(heap, "yes"),
-            Reply::Fits(false) => String::from_str(heap, "no"),
-            Reply::Count(count) => format!(in heap; "{count}"),
-            Reply::Written(call, space) => with_buffer(
-                heap,
-                call_line(heap, *call)?,
-                space.as_slice(),
-            ),
-            Reply::Sent(call, space) => with_buffer(
-                heap,
-                sent_line(heap, *call)?,
-                space.as_slice(),
-            ),
-            Reply::Taken(call) => taken_line(heap, *call),
-            Reply::Text(call, space) => with_buffer(
-                heap,
-                text_line(heap, *call)?,
-                space.as_slice(),
-            ),
-            Reply::Front(record) => record_line(heap, *record),
+            Reply::Call(call) => f.write(Called(*call)),
+            Reply::Fits(true) => f.write_str("yes"),
+            Reply::Fits(false) => f.write_str("no"),
+            Reply::Count(count) => write!(f, "{count}"),
+            Reply::Written(call, space) => write!(f, "{} {}", Called(*call), Hex(space.as_slice())),
+            Reply::Sent(call, space) => {
+                write!(f, "{} {}", Counted("sent", *call), Hex(space.as_slice()))
+            }
+            Reply::Taken(Ok(answer)) => write!(f, "answer {}", answer.number()),
+            Reply::Taken(Err(refusal)) => f.write(Refused(*refusal)),
+            Reply::Text(call, space) => {
+                write!(f, "{} {}", Counted("text", *call), Hex(space.as_slice()))
+            }
+            Reply::Front(Some(tenths)) => write!(f, "reading {tenths}"),
+            Reply::Front(None) => f.write_str("dashes"),
         }
     }
 }
