@@ -36,7 +36,7 @@ fn closed_byte(text: &[u8], at: usize) -> u8
     }
 }
 
-// The four bytes of a text segment.
+// The four bytes of a text segment. (One by one: a closure for from_fn would owe the bound of each.)
 fn segment(text: &[u8], number: usize) -> [u8; 4]
     requires { 4 * number + 4 ≤ length (closed text.now) }
     ensures { result ≡ segment text.now number }
@@ -91,7 +91,7 @@ fn pair(tags: &[Tag]) -> (Tag, Tag)
     }
 }
 
-// The 37 bits of a tag group.
+// The 37 bits of a tag group. (As a sum, which holds for markers of any size; shifted bits would run into one another.)
 fn pack(item: ItemBits, t: Tag, u: Tag) -> u64
     ensures value { result ≡ tag_bits item t u }
     ensures bound { result < 2 ^ 40 }
