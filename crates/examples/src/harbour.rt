@@ -77,10 +77,8 @@ impl<C: Carrier + Drop> Harbour<C> {
     // The class holds just this text.
     pub(crate) fn holds(&self, class: u8, text: &[u8]) -> bool {
         let mut held = [0; 128];
-        match self.reading(class, &mut held) {
-            Ok(length) => held.get(..length) == Some(text),
-            Err(_) => false,
-        }
+        self.reading(class, &mut held)
+            .is_ok_and(|length| held.get(..length) == Some(text))
     }
 
     pub(crate) fn retune(&mut self) {

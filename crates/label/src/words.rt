@@ -6,8 +6,8 @@ use std::error::Error;
 use std::fmt;
 
 impl Refusal {
-    // (Apart from Display, so that what is written has one exit.)
-    fn words(self) -> &'static str
+    // Why a call was refused, in words.
+    pub fn words(self) -> &'static str
         ensures { result.now ≡ words_of self }
     {
         match self {
@@ -41,7 +41,6 @@ impl Refusal {
     }
 }
 
-// Why a call was refused, in words.
 impl fmt::Display for Refusal {
     ghost output = { λ refusal. Some (words_of refusal) };
 

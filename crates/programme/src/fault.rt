@@ -21,8 +21,8 @@ pub enum Fault {
 }
 
 impl Fault {
-    // (Apart from Display, so that what is written has one exit.)
-    fn words(self) -> &'static str
+    // What to tell whoever wrote the line.
+    pub fn message(self) -> &'static str
         ensures { result.now ≡ message_of self }
     {
         match self {
@@ -39,12 +39,11 @@ impl Fault {
     }
 }
 
-// What to tell whoever wrote the line.
 impl fmt::Display for Fault {
     ghost output = { λ fault. Some (message_of fault) };
 
     fn fmt<W: fmt::Write>(&self, f: &mut fmt::Formatter<W>) -> fmt::Result {
-        f.write_str(self.words())
+        f.write_str(self.message())
     }
 }
 

@@ -32,9 +32,7 @@ fn words_of(heap: Global, line: &[u8]) -> Result<Vec<&str>, Fault> {
     if line.len() > LONGEST {
         return Err(Fault::Wrong);
     }
-    let Ok(text) = std::str::from_utf8(line) else {
-        return Err(Fault::Wrong);
-    };
+    let text = std::str::from_utf8(line).map_err(|_| Fault::Wrong)?;
     Ok(text.split(' ').collect(heap)?)
 }
 
