@@ -1,7 +1,7 @@
 use crate::not_sent::NotSent;
 use crate::report::Report;
 use carrier::airing::Airing;
-use carrier::carrier::Carrier;
+use carrier::carrier::{Carrier, in_own_place};
 use carrier::writing::PLACE;
 use label::refusal::Refusal;
 use label::sealed::{Draft, Sealed};
@@ -95,9 +95,7 @@ impl Transmitter {
             toggle: self.toggle,
             service: self.service,
         };
-        let mut place = [0; PLACE];
-        C::write(&airing, number, &mut place)?;
-        Ok(place)
+        in_own_place::<C>(&airing, number)
     }
 
     fn print(&self, place: &[u8], report: &Report) -> anyhow::Result<()> {

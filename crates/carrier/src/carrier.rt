@@ -10,6 +10,7 @@ ghost use Rattle.carrier.specs.Writing.{place};
 use crate::airing::Airing;
 use crate::answer::Answer;
 use crate::told::Told;
+use crate::writing::PLACE;
 use label::refusal::Refusal;
 use label::sealed::Sealed;
 use label::tag::{ItemBits, Tag};
@@ -92,4 +93,13 @@ pub trait Carrier {
     }
 
     ghost lawful: { Lawful meaning };
+}
+
+// One frame of a label, in a place of its own.
+pub fn in_own_place<C: Carrier>(airing: &Airing<'_>, number: usize) -> Result<[u8; PLACE], Refusal>
+    ensures { result ≡ done (airing_refusal C.meaning.writing airing.now number 21) (place (frame_of C.meaning.writing airing.now number)) }
+{
+    let mut place = [0; PLACE];
+    C::write(airing, number, &mut place)?;
+    Ok(place)
 }

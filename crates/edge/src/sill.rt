@@ -1,14 +1,11 @@
 ghost use Rattle.std.specs.Prelude.{◌≡◌};
-ghost use Rattle.label.specs.Drafts.{done};
-ghost use Rattle.carrier.specs.Aired.{airing_refusal, frame_of};
-ghost use Rattle.carrier.specs.Writing.{place};
 ghost use Rattle.edge.specs.Drafting.{SealedAs};
 ghost use Rattle.edge.specs.Frames.{in_row};
 ghost use Rattle.edge.specs.Labels.{sill_outline};
 
 use crate::table::Worked;
 use carrier::airing::Airing;
-use carrier::carrier::Carrier;
+use carrier::carrier::in_own_place;
 use carrier::writing::PLACE;
 use label::draft;
 use label::refusal::Refusal;
@@ -30,15 +27,6 @@ pub fn sealed() -> Result<Sealed, Refusal>
     Ok(draft.seal())
 }
 
-// One frame of a label, in a place of its own.
-fn in_new_place<C: Carrier>(airing: &Airing<'_>, number: usize) -> Result<[u8; PLACE], Refusal>
-    ensures { result ≡ done (airing_refusal C.meaning.writing airing.now number 21) (place (frame_of C.meaning.writing airing.now number)) }
-{
-    let mut place = [0; PLACE];
-    C::write(airing, number, &mut place)?;
-    Ok(place)
-}
-
 // A frame of the sill's label outside any item: the carrier's row of that number, on DAB its check included.
 pub fn frame<W: Worked>(number: usize) -> Result<[u8; PLACE], Refusal>
     ensures { result ≡ in_row W.rows number }
@@ -50,5 +38,5 @@ pub fn frame<W: Worked>(number: usize) -> Result<[u8; PLACE], Refusal>
         toggle: false,
         service: 0x1234,
     };
-    in_new_place::<W>(&airing, number)
+    in_own_place::<W>(&airing, number)
 }
