@@ -1,4 +1,5 @@
 mod Decimals
 mod Fronts
+mod Slashes
 pub mod Marked
 pub mod Values

@@ -1,7 +1,7 @@
 // Parts of a row of bytes.
-ghost use Rattle.std.specs.Prelude.{◌≡◌, ℕ, ◌+◌, ◌<◌, Bool, true, false, length, take, drop, MatchOption};
+ghost use Rattle.std.specs.Prelude.{◌≡◌, ℕ, ◌+◌, ◌<◌, ◌≤◌, Bool, false, length, take, drop, MatchOption};
 ghost use Rattle.std.specs.List.{prefix_len};
-ghost use Rattle.programme.specs.Rows.{trim_front, trim_end, trimmed, is_blank, without_return, unquoted, field, outside, slash_first, slash_at};
+ghost use Rattle.programme.specs.Rows.{trim_front, trim_end, trimmed, is_blank, without_return, unquoted, field, outside, slash_at};
 
 // The longest front of `s` whose bytes pass the test, and what stands behind it.
 pub(crate) fn split_while<F: Fn(u8) -> bool>(s: &[u8], passes: F) -> (&[u8], &[u8])
@@ -80,24 +80,17 @@ pub(crate) fn split_outside_quotes(s: &[u8], b: u8) -> Option<(&[u8], &[u8])>
     None
 }
 
-// What stands behind the slash between two spaces that `s` begins with.
-fn behind_slash(s: &[u8]) -> Option<&[u8]>
-    ensures { MatchOption result (slash_first s.now ≡ false) (λ b. (slash_first s.now ≡ true) × (b.now ≡ drop 3 s.now)) }
+// Where the first slash between two spaces begins.
+fn slash_position(s: &[u8]) -> Option<usize>
+    ensures { MatchOption result (slash_at s.now ≡ length s.now) (λ at. (at ≡ slash_at s.now) × (at + 3 ≤ length s.now)) }
 {
-    match s {
-        [b' ', b'/', b' ', behind @ ..] => Some(behind),
-        _ => None,
-    }
+    s.windows(3).position(|w| w == b" / ".as_slice())
 }
 
-// The parts before and behind the first slash between two spaces. A counted loop, because a cut takes its place.
+// The parts before and behind the first slash between two spaces.
 pub(crate) fn split_slash(s: &[u8]) -> Option<(&[u8], &[u8])>
     ensures { let n = slash_at s.now in MatchOption result (n ≡ length s.now) (λ p. (p.0.now ≡ take n s.now) × (p.1.now ≡ drop (n + 3) s.now)) }
 {
-    for at in 0..s.len() {
-        if let Some(behind) = behind_slash(&s[at..]) {
-            return Some((&s[..at], behind));
-        }
-    }
-    None
+    let at = slash_position(s)?;
+    Some((&s[..at], &s[at + 3..]))
 }
