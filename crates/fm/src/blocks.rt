@@ -23,10 +23,9 @@ impl TryFrom<&[u8]> for Blocks {
     ghost try_from_gives = { λ frame r. Holds frame.now r };
 
     fn try_from(frame: &[u8]) -> Result<Blocks, Refusal> {
-        match <[u8; 8]>::try_from(frame) {
-            Ok(bytes) => Ok(Blocks(bytes)),
-            Err(_) => Err(Refusal::WrongSize),
-        }
+        <[u8; 8]>::try_from(frame)
+            .map(Blocks)
+            .map_err(|_| Refusal::WrongSize)
     }
 }
 
