@@ -4,6 +4,7 @@ use Rattle.label.specs.Drafts.{sealed_outline}
 use Rattle.label.specs.Label.{Label, Outline, label_of}
 use Rattle.label.specs.declared.refusal.Refusal.{Refusal}
 use Rattle.carrier.specs.Writing.{Writing, write_refusal}
+use Rattle.carrier.specs.Listed.{listed}
 use Rattle.carrier.specs.declared.airing.Airing.{Airing}
 use Rattle.carrier.specs.declared.told.Told.{Told}
 
@@ -25,4 +26,4 @@ airing_refusal w a n room = write_refusal w (outline a) a.text.now n room
 
 -- the label that is told
 abbrev pub told_label : Told → Label
-told_label t = record { text = t.text.items; tags = t.tags.items; item = t.item }
+told_label t = record { text = listed t.text; tags = listed t.tags; item = t.item }

@@ -3,4 +3,5 @@ pub mod Writing
 pub mod Answers
 pub mod Meaning
 pub mod Hearing
+pub mod Listed
 pub mod Aired

@@ -4,5 +4,6 @@
 pub mod airing;
 pub mod answer;
 pub mod carrier;
+pub mod short_list;
 pub mod told;
 pub mod writing;

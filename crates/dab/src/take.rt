@@ -12,6 +12,7 @@ use crate::segment::DabSegment;
 use crate::tags::tags_in;
 use arrayvec::ArrayVec;
 use carrier::answer::Answer;
+use carrier::short_list::ShortList;
 use label::refusal::Refusal;
 use taking::arrived::Arrived;
 use taking::held::Piece;
@@ -53,7 +54,7 @@ impl Dab {
         }
         let arrived = Arrived {
             item: head.item(),
-            tags: tags_in(&load.bytes[1..]),
+            tags: ShortList::from(tags_in(&load.bytes[1..])),
         };
         self.taking.on_tags(Some(prefix.command_toggle()), arrived)
     }

@@ -23,12 +23,12 @@ pub part_short : (text p : List ℕ) (t : Tag) → p ≡ part text t → length 
 part_short text p t e n = rw (e, length-take (t.extent + 1) (drop t.start text), length-drop t.start text) (omega arith)
 
 -- a tag of a told label: what it marks
-module _ (told : Told) (t : Tag) (h : Contains told.tags.items t) where
-  at_place : IsNext (length told.text.items) (take h.0 told.tags.items) (get_or told.tags.items h.0 t)
-  at_place = next_tag (length told.text.items) told.tags.items h.0 t h.1 told.right
+module _ (told : Told) (t : Tag) (h : Contains (told_label told).tags t) where
+  at_place : IsNext (length (told_label told).text) (take h.0 (told_label told).tags) (get_or (told_label told).tags h.0 t)
+  at_place = next_tag (length (told_label told).text) (told_label told).tags h.0 t h.1 told.right
 
-  inside : lies_in (length told.text.items) t ≡ true
-  inside = ap (lies_in (length told.text.items)) (sym h.2) ∙ at_place.inside
+  inside : lies_in (length (told_label told).text) t ≡ true
+  inside = ap (lies_in (length (told_label told).text)) (sym h.2) ∙ at_place.inside
 
   sound : silent t.class ≡ false
   sound = ap (λ t. silent t.class) (sym h.2) ∙ at_place.sound
@@ -36,21 +36,21 @@ module _ (told : Told) (t : Tag) (h : Contains told.tags.items t) where
   pub class_small : t.class < 64
   class_small = let s = sound in grind (arith, nat_tests)
 
-  pub part_found : (text : List ℕ) → text ≡ told.text.items → {X : Type 0} (o : Option X) (P : X → Type 0) → MatchOption o (lies_in (length text) t ≡ false) P → IsSome o
+  pub part_found : (text : List ℕ) → text ≡ (told_label told).text → {X : Type 0} (o : Option X) (P : X → Type 0) → MatchOption o (lies_in (length text) t ≡ false) P → IsSome o
   part_found text a o P m = found o (lies_in (length text) t) P m (ap (λ x. lies_in (length x) t) a ∙ inside)
 
 -- the tag that a loop has come to
-module _ (told : Told) (tags : List Tag) (b : tags ≡ told.tags.items) (i : ℕ) (d : Tag) (h : i < length tags) where
+module _ (told : Told) (tags : List Tag) (b : tags ≡ (told_label told).tags) (i : ℕ) (d : Tag) (h : i < length tags) where
   abbrev l : Label
   l = told_label told
 
   abbrev t : Tag
   t = get_or tags i d
 
-  next : IsNext (length told.text.items) (take i tags) (get_or tags i d)
-  next = next_tag (length told.text.items) tags i d h (ap (sealable (length told.text.items)) b ∙ told.right)
+  next : IsNext (length (told_label told).text) (take i tags) (get_or tags i d)
+  next = next_tag (length (told_label told).text) tags i d h (ap (sealable (length (told_label told).text)) b ∙ told.right)
 
-  module _ (old now new : ClassTable) (c : ℕ) (p : List ℕ) (f : c ≡ (get_or tags i d).class) (e : p ≡ part told.text.items (get_or tags i d)) where
+  module _ (old now new : ClassTable) (c : ℕ) (p : List ℕ) (f : c ≡ (get_or tags i d).class) (e : p ≡ part (told_label told).text (get_or tags i d)) where
     pub deleted_next : ChangesRows old now (rule_2 (tagged (told_label told) (take i tags))) → ChangesRows now new (λ k x. emptied (deletion p && empties c k) x)
         → ChangesRows old new (rule_2 (tagged (told_label told) (take (i + 1) tags)))
     deleted_next g r = record { rows = λ k. rw (r.rows k, g.rows k, f, e, take_more tags i d h) (sym (deleted_more l (take i tags) t next (held old k) k)); last = r.last ∙ g.last }

@@ -1,6 +1,7 @@
 ghost use Rattle.std.specs.Prelude.{◌≡◌, ◌<◌, ◌≤◌, length, Contains};
 ghost use Rattle.label.specs.Classes.{item_class};
 ghost use Rattle.label.specs.Tags.{part, deletion};
+ghost use Rattle.carrier.specs.Aired.{told_label};
 ghost use Rattle.display.specs.Held.{is_stored};
 
 use carrier::told::Told;
@@ -21,9 +22,9 @@ impl<'a> Marked<'a> {
     // What a tag of the label marks.
     #[tactic(auto, using(crate::proofs::Steps::class_small, crate::proofs::Steps::part_short))]
     pub(crate) fn by(tag: Tag, told: &'a Told) -> Marked<'a>
-        requires { Contains told.now.tags.items tag }
+        requires { Contains (told_label told.now).tags tag }
         ensures class { result.class ≡ tag.class }
-        ensures part { result.part.now ≡ part told.now.text.items tag }
+        ensures part { result.part.now ≡ part (told_label told.now).text tag }
     {
         Marked {
             class: tag.class,

@@ -8,6 +8,7 @@ ghost use Rattle.fm.specs.Views.{fm_segment};
 use crate::frame::{ANNOUNCEMENT, APPLICATION};
 use crate::text::{FmPiece, FmSegment};
 use arrayvec::ArrayVec;
+use carrier::short_list::ShortList;
 use label::refusal::Refusal;
 use label::tag::{ItemBits, Tag};
 use taking::arrived::Arrived;
@@ -139,7 +140,7 @@ impl Blocks {
                 toggle: bits / 2 % 2 == 1,
                 running: bits % 2 == 1,
             },
-            tags,
+            tags: ShortList::from(tags),
         }
     }
 }

@@ -1,9 +1,9 @@
-use arrayvec::ArrayVec;
+use carrier::short_list::ShortList;
 use label::tag::{ItemBits, Tag};
 
 // Up to four tags with their item bits, as they arrive.
-#[derive(Drop)]
+#[derive(Clone, Copy)]
 pub struct Arrived {
     pub item: ItemBits,
-    pub tags: ArrayVec<Tag, 4>,
+    pub tags: ShortList<Tag, 4>,
 }

@@ -7,6 +7,7 @@ ghost use Rattle.taking.specs.Views.{tags_of};
 
 use crate::arrived::Arrived;
 use arrayvec::ArrayVec;
+use carrier::short_list::ShortList;
 use carrier::told::Told;
 use label::alike::are_alike;
 use label::category::is_silent;
@@ -14,12 +15,14 @@ use label::lawful::is_lawful;
 use label::tag::Tag;
 
 // The tags without silent ones.
-fn sounded(mut tags: ArrayVec<Tag, 4>) -> ArrayVec<Tag, 4>
-    ensures tags { result.items ≡ sounding tags.items }
-    ensures few { length result.items ≤ length tags.items }
+fn sounded(tags: &[Tag]) -> ArrayVec<Tag, 4>
+    requires { length tags.now ≤ 4 }
+    ensures tags { result.items ≡ sounding tags.now }
+    ensures few { length result.items ≤ length tags.now }
 {
-    tags.retain(|tag| !is_silent(tag.class));
-    tags
+    let mut sounding = ArrayVec::try_from(tags).unwrap();
+    sounding.retain(|tag| !is_silent(tag.class));
+    sounding
 }
 
 impl Arrived {
@@ -46,8 +49,8 @@ impl Arrived {
         ensures { told_label result ≡ label_from text.items (tags_of self) }
     {
         Told {
-            text,
-            tags: sounded(self.tags),
+            text: ShortList::from(text),
+            tags: ShortList::from(sounded(self.tags.as_slice())),
             item: self.item,
         }
     }
