@@ -2,10 +2,16 @@ ghost use Rattle.std.specs.Prelude.{ℕ, ◌==◌, true, false, List, Some, [], 
 ghost use Rattle.taking.specs.declared.look.Look.TheVariants.{Behind};
 ghost use Rattle.std.proofs.Common.{rules};
 
+use crate::arrived::Arrived;
 use crate::held::{Piece, Row};
 use crate::look::Look;
 use crate::pieces::Pieces;
 use crate::segment::Segment;
+use crate::taken::Taking;
+use arrayvec::ArrayVec;
+use carrier::answer::Answer;
+use carrier::short_list::ShortList;
+use label::tag::ItemBits;
 use std::test::Fail;
 
 // One letter of three; the text ends in a full stop, or behind the third.
@@ -94,4 +100,24 @@ fn behind_an_end(rt: HostRuntime) {
     assert!(rt; matches!(looks(&row, 2, b'c'), Some(Look::Behind)));
     put(&mut row, 0, b'a');
     assert!(rt; has_text(&row, b"a."));
+}
+
+// Pieces, tags that arrive and a label told are copied where they are used twice.
+#[test]
+fn copies(rt: HostRuntime) {
+    let mut taking: Taking<Row<Letter, 3>> = Taking::new();
+    let segment = Letter([b'.']);
+    let piece = Piece { number: 0, segment };
+    let arrived = Arrived {
+        item: ItemBits::default(),
+        tags: ShortList::from(ArrayVec::new()),
+    };
+    assert!(rt; taking.on_text(false, piece) == Answer::Kept);
+    assert!(rt; taking.on_tags(None, arrived) == Ok(Answer::Complete));
+    let told = taking.told().copied();
+    assert!(rt; taking.on_text(false, piece) == Answer::Again);
+    assert!(rt; taking.on_tags(None, arrived) == Ok(Answer::Again));
+    assert!(rt; taking.on_text(true, piece) == Answer::Kept);
+    assert!(rt; taking.told().is_none());
+    assert!(rt; matches!(told, Some(own) if own.text.as_slice() == b".".as_slice()));
 }
