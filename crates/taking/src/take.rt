@@ -108,12 +108,13 @@ impl<P: Pieces> Taking<P> {
         requires { (view P.held self.old).told ≡ None }
         ensures { settled (view P.held self.old) (P.pieces.text (view P.held self.old).held) (view P.held self.old).waiting ≡ answered result (view P.held self.new) }
     {
+        let Some(arrived) = self.waiting else {
+            return Answer::Kept;
+        };
         let Some(text) = self.pieces.text() else {
             return Answer::Kept;
         };
-        let Some(arrived) = self.waiting.take() else {
-            return Answer::Kept;
-        };
+        self.waiting = None; // told, or unlawful for the text
         if !arrived.are_lawful(text.len()) {
             return Answer::Dropped;
         }
