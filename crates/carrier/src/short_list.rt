@@ -1,4 +1,4 @@
-ghost use Rattle.std.specs.Prelude.{⊤, ◌≡◌, ◌≤◌, length};
+ghost use Rattle.std.specs.Prelude.{⊤, ◌≡◌, ◌≤◌, length, take};
 
 use arrayvec::ArrayVec;
 use std::alloc::AllocError;
@@ -25,6 +25,16 @@ impl<T: Copy, const CAP: usize> Copy for ShortList<T, CAP> {}
 
 impl<T, const CAP: usize> ShortList<T, CAP> {
     ghost use Rattle.carrier.specs.Listed.{listed};
+
+    // The first of CAP places, as many as the length says.
+    pub fn new(places: [T; CAP], len: usize) -> ShortList<T, CAP>
+        ensures { listed result ≡ take len places }
+    {
+        ShortList {
+            places,
+            len: len.min(CAP),
+        }
+    }
 
     // Its entries, in order.
     pub fn as_slice(&self) -> &[T]

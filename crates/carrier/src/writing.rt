@@ -1,12 +1,11 @@
 ghost use Rattle.std.specs.Prelude.{◌≡◌, ◌≤◌, take};
-ghost use Rattle.label.specs.Drafts.{done};
+ghost use Rattle.label.specs.Drafts.{sealed_outline, done};
 ghost use Rattle.label.specs.Refusals.{Own, frame_writing};
-ghost use Rattle.carrier.specs.Aired.{outline};
 ghost use Rattle.carrier.specs.Writing.{place, refusal_by};
 
-use crate::airing::Airing;
 use label::draft;
 use label::refusal::Refusal;
+use label::sealed::Sealed;
 
 // The bytes of a place: a frame's length, and room for the longest frame.
 pub const PLACE: usize = 21;
@@ -17,17 +16,18 @@ const LONGEST: usize = PLACE - 1;
 pub fn may_write(
     fits: bool,
     count: usize,
-    airing: &Airing<'_>,
+    label: &Sealed,
+    text: &[u8],
     number: usize,
     room: usize,
 ) -> Result<(), Refusal>
     ensures own { Own frame_writing result }
-    ensures value { result ≡ done (refusal_by fits count (outline airing.now) airing.now.text.now number room) tt }
+    ensures value { result ≡ done (refusal_by fits count (sealed_outline label.now) text.now number room) tt }
 {
     if !fits {
         return Err(Refusal::LabelDoesNotFit);
     }
-    if !airing.label.matches(airing.text) {
+    if !label.matches(text) {
         return Err(Refusal::OtherText);
     }
     if room < PLACE {

@@ -39,7 +39,8 @@ impl Carrier for Dab {
         may_write(
             Self::fits(label),
             Self::count(label),
-            airing,
+            label,
+            airing.text,
             number,
             space.len(),
         )?;

@@ -3,14 +3,14 @@ ghost use Rattle.std.proofs.Common.{rules};
 ghost use Rattle.dab.specs.Text.{Flagged, dab_segments};
 ghost use Rattle.dab.specs.Held.{flagged};
 
-use arrayvec::ArrayVec;
+use carrier::short_list::ShortList;
 use taking::look::Look;
 use taking::segment::Segment;
 
 // A text segment as it arrives: its data bytes, and whether it is the last.
-#[derive(PartialEq, Eq, Drop)]
+#[derive(Clone, Copy)]
 pub struct DabSegment {
-    pub(crate) data: ArrayVec<u8, 16>,
+    pub(crate) data: ShortList<u8, 16>,
     pub(crate) last: bool,
 }
 
@@ -42,7 +42,7 @@ impl Segment<8> for DabSegment {
     }
 
     fn is_same(&self, other: &Self) -> bool {
-        self == other
+        self.part() == other.part() && self.last == other.last
     }
 
     fn part(&self) -> &[u8] {

@@ -10,7 +10,6 @@ use crate::open::Opened;
 use crate::prefix::DL_PLUS;
 use crate::segment::DabSegment;
 use crate::tags::tags_in;
-use arrayvec::ArrayVec;
 use carrier::answer::Answer;
 use carrier::short_list::ShortList;
 use label::refusal::Refusal;
@@ -28,12 +27,15 @@ impl Dab {
             return Err(Refusal::WrongLength);
         }
         let number = prefix.segment_number()?;
+        let len = load.bytes.len();
+        let mut places = [0; 16];
+        places[..len].copy_from_slice(load.bytes);
         let segment = DabSegment {
-            data: ArrayVec::try_from(load.bytes).unwrap(),
+            data: ShortList::new(places, len),
             last: prefix.is_last(),
         };
         let piece = Piece { number, segment };
-        Ok(self.taking.on_text(prefix.text_toggle(), piece))
+        Ok(self.taking.on_text(prefix.text_toggle(), &piece))
     }
 
     // Takes a command of DL Plus.
@@ -56,7 +58,7 @@ impl Dab {
             item: head.item(),
             tags: ShortList::from(tags_in(&load.bytes[1..])),
         };
-        self.taking.on_tags(Some(prefix.command_toggle()), arrived)
+        self.taking.on_tags(Some(prefix.command_toggle()), &arrived)
     }
 
     // Takes a frame that was opened.

@@ -36,7 +36,8 @@ impl Carrier for Fm {
         may_write(
             Self::fits(airing.label),
             Self::count(airing.label),
-            airing,
+            airing.label,
+            airing.text,
             number,
             space.len(),
         )?;

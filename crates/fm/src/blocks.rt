@@ -7,8 +7,6 @@ ghost use Rattle.fm.specs.Views.{fm_segment};
 
 use crate::frame::{ANNOUNCEMENT, APPLICATION};
 use crate::text::{FmPiece, FmSegment};
-use arrayvec::ArrayVec;
-use carrier::short_list::ShortList;
 use label::refusal::Refusal;
 use label::tag::{ItemBits, Tag};
 use taking::arrived::Arrived;
@@ -132,15 +130,10 @@ impl Blocks {
         let bits = bits / 32 / 64 / 64;
         let first = low_tag(bits, 64);
         let bits = bits / 64 / 64 / 64;
-        let mut tags = ArrayVec::new();
-        tags.push(first);
-        tags.push(second);
-        Arrived {
-            item: ItemBits {
-                toggle: bits / 2 % 2 == 1,
-                running: bits % 2 == 1,
-            },
-            tags: ShortList::from(tags),
-        }
+        let item = ItemBits {
+            toggle: bits / 2 % 2 == 1,
+            running: bits % 2 == 1,
+        };
+        Arrived::new(item, [first, second, second, second], 2)
     }
 }

@@ -15,7 +15,7 @@ impl Fm {
     pub(crate) fn take_text(&mut self, blocks: &Blocks) -> Answer
         ensures { lifted (fm_view self.old) (on_text fm_pieces (fm_view self.old).core (text_toggle blocks.now.0) (text_piece blocks.now.0)) ≡ answered result (fm_view self.new) }
     {
-        self.taking.on_text(blocks.toggle(), blocks.piece())
+        self.taking.on_text(blocks.toggle(), &blocks.piece())
     }
 
     // Learns or forgets the tag group.
@@ -36,6 +36,6 @@ impl Fm {
         ensures reply { result ≡ reply (lifted (fm_view self.old) (on_tags fm_pieces (fm_view self.old).core None (unpacked (read_bits blocks.now.0)))) }
         ensures next { fm_view self.new ≡ next (fm_view self.old) (lifted (fm_view self.old) (on_tags fm_pieces (fm_view self.old).core None (unpacked (read_bits blocks.now.0)))) }
     {
-        self.taking.on_tags(None, blocks.tags())
+        self.taking.on_tags(None, &blocks.tags())
     }
 }

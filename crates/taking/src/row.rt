@@ -126,7 +126,7 @@ impl<S: Segment<N>, const N: usize> Pieces for Row<S, N> {
         look_in(&self.segments, piece.number, &piece.segment)
     }
 
-    fn put(&mut self, piece: Piece<S, N>) {
+    fn put(&mut self, piece: &Piece<S, N>) {
         self.segments[piece.number] = Some(piece.segment);
     }
 

@@ -4,7 +4,7 @@ ghost use Rattle.taking.specs.Segments.{Segments};
 use crate::look::Look;
 
 // A carrier's segment of a text: there are N, with numbers from 0 on.
-pub trait Segment<const N: usize>: Drop {
+pub trait Segment<const N: usize>: Copy {
     ghost Meant: { Type 0 };
 
     ghost meant: { Self → Meant };

@@ -57,8 +57,8 @@ impl<P: Pieces> Taking<P> {
     }
 
     // Forgets all, and holds the piece as the first of a new text.
-    fn begin(&mut self, toggle: bool, piece: P::Piece)
-        ensures { view P.held self.new ≡ begun P.pieces toggle (P.meant piece) }
+    fn begin(&mut self, toggle: bool, piece: &P::Piece)
+        ensures { view P.held self.new ≡ begun P.pieces toggle (P.meant piece.now) }
     {
         self.forget(toggle);
         self.pieces.put(piece);
@@ -66,14 +66,14 @@ impl<P: Pieces> Taking<P> {
 
     // A piece of a text arrives.
     #[tactic(auto, unfolding(crate::specs::Taking::on_text))]
-    pub fn on_text(&mut self, toggle: bool, piece: P::Piece) -> Answer
-        ensures { on_text P.pieces (view P.held self.old) toggle (P.meant piece) ≡ answered result (view P.held self.new) }
+    pub fn on_text(&mut self, toggle: bool, piece: &P::Piece) -> Answer
+        ensures { on_text P.pieces (view P.held self.old) toggle (P.meant piece.now) ≡ answered result (view P.held self.new) }
     {
         if !self.stands(toggle) {
             self.begin(toggle, piece);
             return Answer::Kept;
         }
-        match self.pieces.look(&piece) {
+        match self.pieces.look(piece) {
             Look::Behind => Answer::PassedOver,
             Look::Unlike => {
                 self.begin(toggle, piece);
@@ -93,8 +93,8 @@ impl<P: Pieces> Taking<P> {
         }
     }
 
-    fn put_in(&mut self, piece: P::Piece) -> Answer
-        ensures { put_in P.pieces (view P.held self.old) (P.meant piece) (view P.held self.old).told ≡ answered result (view P.held self.new) }
+    fn put_in(&mut self, piece: &P::Piece) -> Answer
+        ensures { put_in P.pieces (view P.held self.old) (P.meant piece.now) (view P.held self.old).told ≡ answered result (view P.held self.new) }
     {
         if self.told.is_some() {
             return Answer::Again;
@@ -123,18 +123,18 @@ impl<P: Pieces> Taking<P> {
     }
 
     // Forgets all, and the tags wait.
-    fn begin_tags(&mut self, toggle: bool, arrived: Arrived)
-        ensures { view P.held self.new ≡ waiting_for (forgotten P.pieces toggle) (tags_of arrived) }
+    fn begin_tags(&mut self, toggle: bool, arrived: &Arrived)
+        ensures { view P.held self.new ≡ waiting_for (forgotten P.pieces toggle) (tags_of arrived.now) }
     {
         self.forget(toggle);
-        self.waiting = Some(arrived);
+        self.waiting = Some(*arrived);
     }
 
     // Tags arrive, with their message toggle where the carrier's tags have one.
     #[tactic(auto, unfolding(crate::specs::Taking::on_tags))]
-    pub fn on_tags(&mut self, toggle: Option<bool>, arrived: Arrived) -> Result<Answer, Refusal>
-        ensures reply { result ≡ reply (on_tags P.pieces (view P.held self.old) toggle (tags_of arrived)) }
-        ensures next { view P.held self.new ≡ next (view P.held self.old) (on_tags P.pieces (view P.held self.old) toggle (tags_of arrived)) }
+    pub fn on_tags(&mut self, toggle: Option<bool>, arrived: &Arrived) -> Result<Answer, Refusal>
+        ensures reply { result ≡ reply (on_tags P.pieces (view P.held self.old) toggle (tags_of arrived.now)) }
+        ensures next { view P.held self.new ≡ next (view P.held self.old) (on_tags P.pieces (view P.held self.old) toggle (tags_of arrived.now)) }
     {
         match toggle {
             Some(toggle) if !self.stands(toggle) => {
@@ -146,12 +146,12 @@ impl<P: Pieces> Taking<P> {
     }
 
     // Tags under the standing toggle.
-    fn tags_here(&mut self, arrived: Arrived) -> Result<Answer, Refusal>
-        ensures reply { result ≡ reply (tags_met (view P.held self.old) (view P.held self.old) (tags_of arrived) (P.pieces.text (view P.held self.old).held)) }
-        ensures next { view P.held self.new ≡ next (view P.held self.old) (tags_met (view P.held self.old) (view P.held self.old) (tags_of arrived) (P.pieces.text (view P.held self.old).held)) }
+    fn tags_here(&mut self, arrived: &Arrived) -> Result<Answer, Refusal>
+        ensures reply { result ≡ reply (tags_met (view P.held self.old) (view P.held self.old) (tags_of arrived.now) (P.pieces.text (view P.held self.old).held)) }
+        ensures next { view P.held self.new ≡ next (view P.held self.old) (tags_met (view P.held self.old) (view P.held self.old) (tags_of arrived.now) (P.pieces.text (view P.held self.old).held)) }
     {
         let Some(text) = self.pieces.text() else {
-            self.waiting = Some(arrived);
+            self.waiting = Some(*arrived);
             return Ok(Answer::Kept);
         };
         if !arrived.are_lawful(text.len()) {

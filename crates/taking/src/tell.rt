@@ -1,4 +1,4 @@
-ghost use Rattle.std.specs.Prelude.{◌≡◌, ◌≤◌, true, length};
+ghost use Rattle.std.specs.Prelude.{◌≡◌, ◌≤◌, true, length, take};
 ghost use Rattle.label.specs.Lawful.{lawful};
 ghost use Rattle.label.specs.Tags.{sounding};
 ghost use Rattle.carrier.specs.Aired.{told_label};
@@ -12,7 +12,7 @@ use carrier::told::Told;
 use label::alike::are_alike;
 use label::category::is_silent;
 use label::lawful::is_lawful;
-use label::tag::Tag;
+use label::tag::{ItemBits, Tag};
 
 // The tags without silent ones.
 fn sounded(tags: &[Tag]) -> ArrayVec<Tag, 4>
@@ -26,6 +26,16 @@ fn sounded(tags: &[Tag]) -> ArrayVec<Tag, 4>
 }
 
 impl Arrived {
+    // The first of four tags, as many as the count says.
+    pub fn new(item: ItemBits, tags: [Tag; 4], count: usize) -> Arrived
+        ensures { tags_of result ≡ record { item = item; tags = take count tags } }
+    {
+        Arrived {
+            item,
+            tags: ShortList::new(tags, count),
+        }
+    }
+
     // The tags are lawful for a text of this many bytes.
     pub(crate) fn are_lawful(&self, len: usize) -> bool
         ensures lawful { result ≡ lawful len (tags_of self.now).tags }

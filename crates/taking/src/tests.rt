@@ -69,7 +69,7 @@ fn looks(row: &Row<Letter, 3>, number: usize, byte: u8) -> Option<Look> {
 
 fn put(row: &mut Row<Letter, 3>, number: usize, byte: u8) {
     if let Some(piece) = piece_of(number, byte) {
-        row.put(piece);
+        row.put(&piece);
     }
 }
 
@@ -112,12 +112,12 @@ fn copies(rt: HostRuntime) {
         item: ItemBits::default(),
         tags: ShortList::from(ArrayVec::new()),
     };
-    assert!(rt; taking.on_text(false, piece) == Answer::Kept);
-    assert!(rt; taking.on_tags(None, arrived) == Ok(Answer::Complete));
+    assert!(rt; taking.on_text(false, &piece) == Answer::Kept);
+    assert!(rt; taking.on_tags(None, &arrived) == Ok(Answer::Complete));
     let told = taking.told().copied();
-    assert!(rt; taking.on_text(false, piece) == Answer::Again);
-    assert!(rt; taking.on_tags(None, arrived) == Ok(Answer::Again));
-    assert!(rt; taking.on_text(true, piece) == Answer::Kept);
+    assert!(rt; taking.on_text(false, &piece) == Answer::Again);
+    assert!(rt; taking.on_tags(None, &arrived) == Ok(Answer::Again));
+    assert!(rt; taking.on_text(true, &piece) == Answer::Kept);
     assert!(rt; taking.told().is_none());
     assert!(rt; matches!(told, Some(own) if own.text.as_slice() == b".".as_slice()));
 }
