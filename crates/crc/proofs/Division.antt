@@ -88,7 +88,7 @@ one_byte k c b rest h g l =
 abbrev pub from : ℕ → List ℕ → List Bool
 from c bytes = divided (length (bits_of bytes)) (added (bits 16 c) (bits_of bytes ++ replicate 16 false))
 
-from_byte : (c b : ℕ) (bytes : List ℕ) → c < 65536 → b < 256 → from c (b ∷ bytes) ≡ from (byte_in c b) bytes
+pub from_byte : (c b : ℕ) (bytes : List ℕ) → c < 65536 → b < 256 → from c (b ∷ bytes) ≡ from (byte_in c b) bytes
 from_byte c b bytes h g =
     let n : length (bits 8 b ++ bits_of bytes) ≡ 8 + length (bits_of bytes) = length-append (bits 8 b) (bits_of bytes) in
     let l : 16 ≤ length (bits_of bytes ++ replicate 16 false) = simp length-append (omega arith) in
@@ -96,11 +96,11 @@ from_byte c b bytes h g =
     ∙ one_byte (length (bits_of bytes)) c b (bits_of bytes ++ replicate 16 false) h g l
 
 -- with no byte left the register is the remainder
-from_none : (c : ℕ) → c < 65536 → number (from c []) ≡ c
+pub from_none : (c : ℕ) → c < 65536 → number (from c []) ≡ c
 from_none c h = ap number (onto_zeros (bits 16 c) [] ∙ append-nil (bits 16 c)) ∙ number_bits 16 c h
 
 -- and it starts with ones
-from_ones : (bytes : List ℕ) → from 65535 bytes ≡ remainder (dividend bytes)
+pub from_ones : (bytes : List ℕ) → from 65535 bytes ≡ remainder (dividend bytes)
 from_ones bytes =
     let row = bits_of bytes ++ replicate 16 false in
     let l : length row ≡ length (bits_of bytes) + 16 = length-append (bits_of bytes) (replicate 16 false) in
