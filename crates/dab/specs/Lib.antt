@@ -9,3 +9,4 @@ pub mod Reopened
 pub mod Heard
 pub mod OwnText
 pub mod OnAir
+pub mod Telling

@@ -6,5 +6,6 @@ pub mod Views
 pub mod Laws
 pub mod Aired
 pub mod Bits
+pub mod Closed
 pub mod FramesLemmas
 pub mod Texts
