@@ -1,35 +1,73 @@
 -- What the library reads and writes in hexadecimal is what the specification says.
-use Rattle.std.proofs.Common.{◌≡◌, ℕ, ◌+◌, ◌-◌, ◌*◌, ◌/◌, ◌%◌, ◌^◌, ◌<◌, ◌==◌, true, false, cond, ◌&&◌, inl, inr, List, [], ◌∷◌, ◌++◌, length, get_or, take, Some, None, Ok, Err, Option, Result, refl, sym, ap, subst, ◌∙◌, ◌⊎◌, arith}
-use Rattle.std.proofs.lemmas.Bool.{cases_eq, eq-eqb, ne_eqb}
+use Rattle.std.proofs.Common.{◌≡◌, ℕ, zero, suc, Bool, slice_index, lit<, ◌+◌, ◌-◌, ◌*◌, ◌/◌, ◌%◌, ◌^◌, ◌<◌, ◌==◌, true, false, cond, ◌&&◌, inl, inr, List, [], ◌∷◌, ◌++◌, length, get_or, take, Some, None, Ok, Err, Option, Result, refl, sym, ap, subst, ◌∙◌, ◌⊎◌, arith}
+use Rattle.std.proofs.lemmas.Bool.{and_parts, cases_eq, cases_lt, eq-eqb, eqb-true, ne_eqb}
 use Rattle.std.proofs.lemmas.Bool.Decides.{nat_tests}
-use Rattle.std.proofs.lemmas.Fmt.{hex_byte}
 use Rattle.std.proofs.lemmas.Grind.{flat_map-append}
-use Rattle.std.proofs.lemmas.List.{take_more}
-use Rattle.std.specs.Fmt.{padded_integral, format_spec, digits as std_digits, digit_glyph}
+use Rattle.std.proofs.lemmas.List.{get_or_past}
+use Rattle.std.proofs.lemmas.List.Concat.{flat_map-cons}
+use Rattle.std.proofs.lemmas.Str.{IsUtf8-from_ascii}
+use Rattle.std.specs.Str.{IsAscii, IsUtf8}
 use Rattle.std.specs.Result.{result_ok, IsErrAnd}
 use Rattle.std.specs.Global.{Vec}
-use Rattle.hex.specs.Hex.{hex_digit_value, digit_or_error, decode_pairs, decode_of, ◌>>=◌}
+use Rattle.hex.proofs.HexLemmas.{IsAscii-encode_with}
+use Rattle.hex.specs.Hex.{lower_digits, encode_with, encode_lower, hex_digit_value, digit_or_error, decode_pairs, decode_of, ◌>>=◌}
 use Rattle.hex.specs.declared.error.FromHexError.{FromHexError}
 use Rattle.hex.specs.declared.error.FromHexError.TheVariants.{InvalidHexCharacter, OddLength, InvalidStringLength, OutOfMemory}
 use Rattle.script.specs.declared.fault.Fault.{Fault}
 use Rattle.script.specs.Bytes.{Faulty, Reads, fault_of}
-use Rattle.script.specs.Digits.{digit_of, lower_digit, hex_pair, hex_of, and_then, byte_of, with_byte, hex_bytes, bytes_of}
+use Rattle.script.specs.Digits.{digit_of, lower_digit, hex_pair, hex_of, printed, and_then, byte_of, with_byte, hex_bytes, bytes_of}
 
-glyph : (v : ℕ) → digit_glyph false v ≡ lower_digit v
-glyph v = grind (arith, nat_tests)
+-- the digit of one value, and of all below a number: both tests compute
+abbrev has_digit : ℕ → Bool
+has_digit v = slice_index lower_digits v == lower_digit v
 
--- what `{:02x}` writes of a byte
-pair_printed : (b : ℕ) → b < 256 → padded_integral (format_spec 32 0 4 2 (2 ^ 64 - 1)) false [] (std_digits 16 false b) ≡ hex_pair b
-pair_printed b h =
-    let high = glyph (b / 16) in
-    let low = glyph (b % 16) in
-    hex_byte false b h ∙ rw (high, low) refl
+abbrev all_have : ℕ → Bool
+all_have zero = true
+all_have (suc n) = has_digit n && all_have n
 
--- one more byte of those that are printed
-pub one_more : (bs : List ℕ) (i : ℕ) → i < length bs → get_or bs i 0 < 256 → hex_of (take i bs) ++ padded_integral (format_spec 32 0 4 2 (2 ^ 64 - 1)) false [] (std_digits 16 false (get_or bs i 0)) ≡ hex_of (take (i + 1) bs)
-one_more bs i h small =
-    ap (λ x. hex_of (take i bs) ++ x) (pair_printed (get_or bs i 0) small)
-    ∙ sym (ap hex_of (take_more bs i 0 h) ∙ flat_map-append hex_pair (take i bs) (get_or bs i 0 ∷ []))
+one_has : (n v : ℕ) → all_have n ≡ true → v < n → has_digit v ≡ true
+one_has zero v all h = absurd (omega arith)
+one_has (suc n) v all h =
+    let parts = and_parts (has_digit n) (all_have n) all in
+    elim (cases_lt v n) [
+      | inl below ↦ one_has n v parts.1 below
+      | inr top ↦
+          let last : v ≡ n = omega arith in
+          rw last parts.0
+    ]
+
+digit : (v : ℕ) → v < 16 → slice_index lower_digits v ≡ lower_digit v
+digit v h = eqb-true (slice_index lower_digits v) (lower_digit v) (one_has 16 v refl h)
+
+-- what the library writes of bytes
+pub encoded : (bs : List ℕ) → ((i : ℕ) → slice_index bs i < 256) → encode_lower bs ≡ hex_of bs
+unfolding encode_with
+encoded [] h = refl
+encoded (b ∷ bs) h =
+    let small : b < 256 = h 0 in
+    let high = digit (b / 16) (omega arith) in
+    let low = digit (b % 16) (omega arith) in
+    let rest = encoded bs (λ i. h (suc i)) in
+    rw (high, low, rest, flat_map-cons hex_pair b bs) refl
+
+low_digit : (v : ℕ) → v < 16 → lower_digit v < 128
+low_digit v h = grind (arith, nat_tests)
+
+plain : IsAscii lower_digits
+plain i = elim (cases_lt i 16) [
+  | inl below ↦ rw (digit i below) (low_digit i below)
+  | inr past ↦ rw (get_or_past lower_digits i 0 past) (lit< tt)
+]
+
+pub is_text : (bs : List ℕ) → IsUtf8 (encode_lower bs)
+is_text bs = IsUtf8-from_ascii (encode_lower bs) (IsAscii-encode_with lower_digits bs plain)
+
+pub written_so_far : (front chunk : List ℕ) → hex_of front ++ hex_of chunk ≡ hex_of (front ++ chunk)
+written_so_far front chunk = sym (flat_map-append hex_pair front chunk)
+
+pub some_printed : (bs : List ℕ) → (bs ≡ [] → ⊥) → hex_of bs ≡ printed bs
+some_printed [] some = absurd (some refl)
+some_printed (b ∷ bs) some = refl
 
 digit_same : (c : ℕ) → hex_digit_value c ≡ digit_of c
 digit_same c = grind (arith, nat_tests)

@@ -1,11 +1,12 @@
-ghost use Rattle.std.specs.Prelude.{Some};
-ghost use Rattle.script.specs.Digits.{printed};
+ghost use Rattle.std.specs.Prelude.{◌≤◌, length, Some};
+ghost use Rattle.std.specs.Fmt.{WritesOnOk};
+ghost use Rattle.script.specs.Digits.{hex_of, printed};
 ghost use Rattle.script.specs.Lines.{refused_line, call_line, counted_line, reply_line};
 
 use carrier::answer::Answer;
 use front::record::Record;
 use label::refusal::Refusal;
-use std::fmt;
+use std::{fmt, str};
 
 // What a command answers.
 #[derive(Drop)]
@@ -28,6 +29,25 @@ pub enum Reply {
     Front(Record),
 }
 
+// The most bytes whose digits are written at once: a write costs more than the digits of a byte.
+const MOST: usize = 32;
+
+// Writes the digits of at most so many bytes.
+fn write_digits<W: fmt::Write>(f: &mut fmt::Formatter<W>, bytes: &[u8]) -> fmt::Result
+    requires { length bytes.now ≤ MOST }
+    ensures { WritesOnOk W.write_str_gives f.old result (hex_of bytes.now) f.new }
+{
+    let mut room = [0; 2 * MOST];
+    let digits = &mut room[..2 * bytes.len()];
+    let Ok(()) = hex::encode_to_slice(bytes, digits) else {
+        unreachable!();
+    };
+    let Ok(text) = str::from_utf8(digits) else {
+        unreachable!();
+    };
+    f.write_str(text)
+}
+
 // Bytes in hexadecimal, or `-` for none.
 #[derive(Clone, Copy)]
 struct Hex<'a>(&'a [u8]);
@@ -39,8 +59,8 @@ impl fmt::Display for Hex<'_> {
         if self.0.is_empty() {
             return f.write_str("-");
         }
-        for &byte in self.0 {
-            write!(f, "{byte:02x}")?;
+        for chunk in self.0.chunks(MOST) {
+            write_digits(f, chunk)?;
         }
         Ok(())
     }
