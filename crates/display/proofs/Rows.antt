@@ -41,11 +41,11 @@ pub row_cleared : (xs ys : List (ArrayVec ℕ 128 (Unit {0}))) (k : ℕ) → len
 row_cleared xs ys k n m h = items_cleared (λ v. v.items) _ xs ys k n m h
 
 -- a new table holds nothing
+pub new_row : (t : ClassTable) (k : ℕ) → AllOfLen (λ v. v.items ≡ []) t.rows 64 → held t k ≡ []
+new_row t k all = ⊎_elim (λ h. all.at k _ h) (λ h. ap (λ x. x.items) (get_or_past t.rows k _ (let n = all.long in omega arith))) (cases_lt k 64)
+
 pub new_table : (t : ClassTable) → AllOfLen (λ v. v.items ≡ []) t.rows 64 → t.last ≡ None → table_of t ≡ empty
-new_table t all e = λ i. record { row = λ k. nothing k i; toggle = toggle_of (e i) }
-  where
-    nothing : (k : ℕ) → held t k ≡ []
-    nothing k = ⊎_elim (λ h. all.at k _ h) (λ h. ap (λ x. x.items) (get_or_past t.rows k _ (let n = all.long in omega arith))) (cases_lt k 64)
+new_table t all e = λ i. record { row = λ k. new_row t k all i; toggle = toggle_of (e i) }
 
 -- a label with running 0 leaves nothing in Item
 pub idle_after : (last : Option Bool) (l : Label) (k : ℕ) (old : List ℕ) → item_class k ≡ true → l.item.running ≡ false → by_rules last l k old ≡ []
