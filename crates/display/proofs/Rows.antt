@@ -7,9 +7,8 @@ use borrow.Rule.Slice.PartMut.{put_mid}
 use Rattle.label.specs.Classes.{item_class}
 use Rattle.std.specs.Array.{AllOfLen}
 use Rattle.agreement.specs.Rules.{emptied, empty, by_rules}
+use Rattle.agreement.specs.Shown.{Shown}
 use Rattle.label.specs.Label.{Label}
-use Rattle.display.specs.declared.table.ClassTable.{ClassTable}
-use Rattle.display.specs.Held.{held, toggle_of, table_of}
 use Rattle.arrayvec.specs.declared.array_vec.ArrayVec.{ArrayVec}
 
 outside_item : (k : ℕ) → (k < 1) ⊎ (12 ≤ k) → item_class k ≡ false
@@ -41,11 +40,13 @@ pub row_cleared : (xs ys : List (ArrayVec ℕ 128 (Unit {0}))) (k : ℕ) → len
 row_cleared xs ys k n m h = items_cleared (λ v. v.items) _ xs ys k n m h
 
 -- a new table holds nothing
-pub new_table : (t : ClassTable) → AllOfLen (λ v. v.items ≡ []) t.rows 64 → t.last ≡ None → table_of t ≡ empty
-new_table t all e = λ i. record { row = λ k. nothing k i; toggle = toggle_of (e i) }
-  where
-    nothing : (k : ℕ) → held t k ≡ []
-    nothing k = ⊎_elim (λ h. all.at k _ h) (λ h. ap (λ x. x.items) (get_or_past t.rows k _ (let n = all.long in omega arith))) (cases_lt k 64)
+pub new_row : (rows : List (ArrayVec ℕ 128 (Unit {0}))) (k : ℕ) → AllOfLen (λ v. v.items ≡ []) rows 64 → (get_or rows k (record { items = [] })).items ≡ []
+new_row rows k all = ⊎_elim (λ h. all.at k _ h) (λ h. ap (λ x. x.items) (get_or_past rows k _ (let n = all.long in omega arith))) (cases_lt k 64)
+
+-- a new display
+pub new_shown : {S : Type 0} (state fresh : S) (rows : List (ArrayVec ℕ 128 (Unit {0}))) (toggle : Option Bool) → state ≡ fresh → AllOfLen (λ v. v.items ≡ []) rows 64 → toggle ≡ None
+    → ◌≡◌ {A = Shown S} (record { carrier = state; table = record { row = λ k. (get_or rows k (record { items = [] })).items; toggle = toggle } }) (record { carrier = fresh; table = empty })
+new_shown state fresh rows toggle s all e = λ i. record { carrier = s i; table = record { row = λ k. new_row rows k all i; toggle = e i } }
 
 -- a label with running 0 leaves nothing in Item
 pub idle_after : (last : Option Bool) (l : Label) (k : ℕ) (old : List ℕ) → item_class k ≡ true → l.item.running ≡ false → by_rules last l k old ≡ []

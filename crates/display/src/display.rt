@@ -15,7 +15,7 @@ use label::refusal::Refusal;
 
 impl<C: Carrier> Display<C> {
     // A display that holds nothing.
-    #[tactic(auto, using(crate::proofs::Rows::new_table))]
+    #[tactic(auto, using(crate::proofs::Rows::new_row))]
     pub fn new() -> Self
         ensures { view C.state result ≡ new_display C.meaning }
     {

@@ -1,4 +1,4 @@
-ghost use Rattle.std.specs.Prelude.{◌≡◌, ◌<◌, ◌&&◌, if◌then◌else◌, nat_eq, Some};
+ghost use Rattle.std.specs.Prelude.{◌≡◌, ℕ, ◌<◌, ◌≤◌, ◌&&◌, length, if◌then◌else◌, nat_eq, Some};
 ghost use Rattle.label.specs.Classes.{item_class};
 ghost use Rattle.label.specs.Tags.{deletion};
 ghost use Rattle.carrier.specs.Aired.{told_label};
@@ -30,6 +30,7 @@ impl ClassTable {
     pub(crate) fn apply(&mut self, told: &Told)
         ensures table { table_of self.new ≡ on_label (table_of self.old) (told_label told.now) }
         ensures last { self.new.last ≡ Some told.now.item }
+        ensures small { ((k : ℕ) → length (held self.old k) ≤ 128) → (k : ℕ) → length (held self.new k) ≤ 128 }
     {
         self.rule_1(told);
         self.rule_2(told);
@@ -39,7 +40,8 @@ impl ClassTable {
 
     // 1. If running is 0, or the toggle is not that of the last complete label, all Item classes are emptied.
     fn rule_1(&mut self, told: &Told)
-        ensures { ChangesRows self.old self.new (rule_1 (toggle_of self.old.last) (told_label told.now)) }
+        ensures rows { ChangesRows self.old self.new (rule_1 (toggle_of self.old.last) (told_label told.now)) }
+        ensures small { ((k : ℕ) → length (held self.old k) ≤ 128) → (k : ℕ) → length (held self.new k) ≤ 128 }
     {
         if self.is_other_item(told.item) {
             self.clear_items();
@@ -48,7 +50,8 @@ impl ClassTable {
 
     // 2. Deletions empty their class; one in Item empties all Item classes.
     fn rule_2(&mut self, told: &Told)
-        ensures { ChangesRows self.old self.new (rule_2 (told_label told.now)) }
+        ensures rows { ChangesRows self.old self.new (rule_2 (told_label told.now)) }
+        ensures small { ((k : ℕ) → length (held self.old k) ≤ 128) → (k : ℕ) → length (held self.new k) ≤ 128 }
     {
         for tag in told.tags.as_slice() {
             self.delete(Marked::by(*tag, told));
@@ -57,7 +60,8 @@ impl ClassTable {
 
     // 3. The other parts are stored, Item parts only while running is 1.
     fn rule_3(&mut self, told: &Told)
-        ensures { ChangesRows self.old self.new (rule_3 (told_label told.now)) }
+        ensures rows { ChangesRows self.old self.new (rule_3 (told_label told.now)) }
+        ensures small { ((k : ℕ) → length (held self.old k) ≤ 128) → (k : ℕ) → length (held self.new k) ≤ 128 }
     {
         for tag in told.tags.as_slice() {
             self.store(Marked::by(*tag, told), told.item.running);
