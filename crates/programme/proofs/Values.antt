@@ -32,7 +32,7 @@ weighs n (b ∷ bs) =
     let m = zero-mul (p * 10) in
     rw w (omega (arith, front, self, a, z, m))
 
-joined : (ws fs : List ℕ) → numeral (ws ++ fs) ≡ numeral ws * 10 ^ length fs + numeral fs
+pub joined : (ws fs : List ℕ) → numeral (ws ++ fs) ≡ numeral ws * 10 ^ length fs + numeral fs
 joined ws fs = fold-append step 0 ws fs ∙ weighs (numeral ws) fs
 
 pub zero_numeral : (ws fs : List ℕ) → numeral ws ≡ 0 → numeral fs ≡ 0 → numeral (ws ++ fs) ≡ 0
@@ -46,7 +46,7 @@ first_counted : (t : Bool) (a b : ℕ) → eqb (cond t (1 + a) 0) (suc b) ≡ tr
 first_counted true a b e = (refl, omega (arith, eqb-true (1 + a) (suc b) e))
 first_counted false a b e = absurd (omega (arith, eqb-true 0 (suc b) e))
 
-first_digit : (b : ℕ) (bs : List ℕ) → all_digits (b ∷ bs) ≡ true → b - 48 < 10
+pub first_digit : (b : ℕ) (bs : List ℕ) → all_digits (b ∷ bs) ≡ true → b - 48 < 10
 first_digit b bs h =
     let t = and_parts (leb 48 b) (leb b 57) (first_counted (is_digit b) (prefix_len is_digit bs) (length bs) h).0 in
     omega (arith, leb-true b 57 t.1)

@@ -37,10 +37,10 @@ writes base n (b ∷ ds) h =
           inr ((λ x. omega arith), ap (λ (o : Option ℕ). and_then o (λ d. written base (n * base + d) ds)) d)
     ]
 
-fits : (n : ℕ) → n < 2 ^ 32 → fitting n ≡ Some n
+pub fits : (n : ℕ) → n < 2 ^ 32 → fitting n ≡ Some n
 fits n h = cond-true _ (Some n) None (lt-ltb n (2 ^ 32) h)
 
-fits_not : (n : ℕ) → 2 ^ 32 ≤ n → fitting n ≡ None
+pub fits_not : (n : ℕ) → 2 ^ 32 ≤ n → fitting n ≡ None
 fits_not n h = cond-false _ (Some n) None (le-ltb n (2 ^ 32) h)
 
 some_digits : (base : ℕ) (ds : List ℕ) (o : Option ℕ) → (length ds ≡ 0 → ⊥) → written base 0 ds ≡ o → number_in base ds ≡ and_then o fitting
