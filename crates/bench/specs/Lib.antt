@@ -1,3 +1,4 @@
 pub mod Carriers
 pub mod Held
 pub mod State
+pub mod Words

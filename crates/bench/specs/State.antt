@@ -93,3 +93,7 @@ Obeys h Reopen r after = (r ≡ reopen_reply h) × (after ≡ after_reopen h)
 Obeys h (AskFits c) r after = (r ≡ fits_reply h c) × (after ≡ h)
 Obeys h (AskCount c) r after = (r ≡ count_reply h c) × (after ≡ h)
 Obeys h (Write w) r after = WriteReply h w r × (after ≡ h)
+
+-- a reply that some command gets
+abbrev pub Replies : Held → Reply → Held → Type 0
+Replies h x after = (c : Command) × Obeys h c (Ok x) after

@@ -1,3 +1,7 @@
+ghost use Rattle.std.specs.Prelude.{◌≡◌, slice_get, MatchOption};
+ghost use Rattle.script.specs.declared.fault.Fault.TheVariants.{Wrong};
+ghost use Rattle.bench.specs.Words.{IsAboutLabel};
+
 use crate::carriers::{Named, Wanted};
 use label::tag::Tag;
 use script::fault::Fault;
@@ -60,7 +64,9 @@ fn parse_write(
 
 impl Command {
     // The command that these words say. (No TryFrom: it takes memory too.)
-    pub fn parse(heap: Global, words: &[&str]) -> Result<Command, Fault> {
+    pub fn parse(heap: Global, words: &[&str]) -> Result<Command, Fault>
+        ensures { MatchOption (slice_get words.now 0) (result ≡ Err Wrong) (λ word. (IsAboutLabel word.now → ⊥) → result ≡ Err Wrong) }
+    {
         match words {
             ["open", text] => Ok(Command::Open(bytes(heap, text)?)),
             ["tag", class, start, extent] => Ok(Command::Tag(parse_tag(class, start, extent)?)),

@@ -2,7 +2,7 @@ ghost use Rattle.std.specs.Prelude.{◌≡◌};
 ghost use Rattle.label.specs.Drafts.{sealed_outline, opening_refusal, done};
 ghost use Rattle.script.specs.declared.reply.Reply.TheVariants.{Call};
 ghost use Rattle.bench.specs.Held.{Held, nothing, held};
-ghost use Rattle.bench.specs.State.{Obeys, opened, tag_reply, after_tag, seal_reply, after_seal, reopen_reply, after_reopen, fits_reply, count_reply, Writes, WriteReply};
+ghost use Rattle.bench.specs.State.{Obeys, Replies, opened, tag_reply, after_tag, seal_reply, after_seal, reopen_reply, after_reopen, fits_reply, count_reply, Writes, WriteReply};
 
 use crate::buffer::buffer;
 use crate::carriers::Named;
@@ -145,6 +145,8 @@ impl Console for Bench {
     ghost State = { Held };
 
     ghost state = { λ b. held b.label };
+
+    ghost replies = { Replies };
 
     fn obey_words(&mut self, heap: Global, words: &[&str]) -> Result<Reply, Fault> {
         let command = Command::parse(heap, words)?;

@@ -1,2 +1,3 @@
 pub mod Posts
 pub mod State
+pub mod Words

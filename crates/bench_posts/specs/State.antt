@@ -1,5 +1,5 @@
 -- What the console with stations and displays holds, and what its commands answer and leave behind.
-use Rattle.std.specs.Prelude.{◌≡◌, Result}
+use Rattle.std.specs.Prelude.{◌≡◌, Ok, Result}
 use Rattle.fm.specs.Taking.{FmState, fm}
 use Rattle.fm.specs.Views.{fm_view}
 use Rattle.dab.specs.Taking.{State, dab}
@@ -37,3 +37,7 @@ OrderObeys s Dab o r t = PostObeys dab s.label o s.dab r t.dab × (t.fm ≡ s.fm
 abbrev pub Obeys : BenchState → Command → Result Reply Fault → BenchState → Type 0
 Obeys s (Label c) r t = LabelObeys s.label c r t.label × (t.fm ≡ s.fm) × (t.dab ≡ s.dab)
 Obeys s (At c o) r t = OrderObeys s c o r t
+
+-- a reply that some command gets
+abbrev pub Replies : BenchState → Reply → BenchState → Type 0
+Replies s x t = (c : Command) × Obeys s c (Ok x) t

@@ -1,3 +1,7 @@
+ghost use Rattle.std.specs.Prelude.{◌≡◌, slice_get, MatchOption};
+ghost use Rattle.script.specs.declared.fault.Fault.TheVariants.{Wrong};
+ghost use Rattle.bench_posts.specs.Words.{IsCommand};
+
 use bench::carriers::Named;
 use script::fault::Fault;
 use script::words::{byte, bytes, half_word, size as size_of};
@@ -48,7 +52,9 @@ fn at(carrier: &str, order: Order) -> Result<Command, Fault> {
 
 impl Command {
     // The command that these words say: a call of a station or a display, or else one about a label.
-    pub fn parse(heap: Global, words: &[&str]) -> Result<Command, Fault> {
+    pub fn parse(heap: Global, words: &[&str]) -> Result<Command, Fault>
+        ensures { MatchOption (slice_get words.now 0) (result ≡ Err Wrong) (λ word. (IsCommand word.now → ⊥) → result ≡ Err Wrong) }
+    {
         match words {
             ["station", carrier, service] => at(carrier, Order::Station(half_word(service)?)),
             ["start", carrier] => at(carrier, Order::Start),

@@ -1,5 +1,5 @@
 ghost use Rattle.std.specs.Prelude.{◌≡◌};
-ghost use Rattle.bench_posts.specs.State.{bench_of, new_bench, Obeys};
+ghost use Rattle.bench_posts.specs.State.{bench_of, new_bench, Obeys, Replies};
 
 use crate::command::Command;
 use crate::post::Post;
@@ -50,6 +50,8 @@ impl Console for Bench {
     ghost State = { BenchState };
 
     ghost state = { bench_of };
+
+    ghost replies = { Replies };
 
     // (As in the bench below, over the commands of this one.)
     fn obey_words(&mut self, heap: Global, words: &[&str]) -> Result<Reply, Fault> {

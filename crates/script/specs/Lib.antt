@@ -1,3 +1,4 @@
+pub mod Answering
 pub mod Asking
 pub mod Bytes
 pub mod Digits

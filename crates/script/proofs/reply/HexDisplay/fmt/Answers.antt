@@ -1,7 +1,7 @@
-use Rattle.std.proofs.Common.{◌≡◌, ℕ, List, [], ◌∷◌, ◌++◌, sym, ap, subst, ◌∙◌, arith, rules, append_assoc, append-nil}
+use Rattle.std.proofs.Common.{ℕ, List, [], ◌++◌, sym, ap, ◌∙◌, rules, append_assoc, append-nil}
 use Rattle.std.proofs.Output.{has_written_append, has_written_of_eq}
 use Rattle.std.proofs.lemmas.List.{nil_from_length}
-use Rattle.script.specs.Digits.{hex_of, printed}
+use Rattle.script.specs.Digits.{hex_of}
 use Rattle.script.proofs.Hex.{some_printed, written_so_far}
 use Rattle.script.proofs.reply.HexDisplay.fmt.Goals as goal
 
