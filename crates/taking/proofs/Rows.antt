@@ -63,9 +63,9 @@ module _ {S D : Type 0} (g : Segments D) (meant : S → D) (rows : List (Option 
       pub read_ends : g.ends (meant s) ≡ true → whole ≡ Some (xs ++ g.bytes (meant s))
       read_ends h = read_on ∙ ap (λ b. joined (xs ++ g.bytes (meant s)) (cond b (Some []) (rest (i + 1)))) h ∙ ap Some (append-nil _)
 
--- parts of which n are at most 128 bytes long, i of them taken
-pub room : (n i taken part : ℕ) → i < n → n * taken ≤ 128 * i → n * part ≤ 128 → (taken + part) ≤ 128
-room n i taken part c h k =
+-- parts of which n are at most 128 bytes long, fewer than n of them taken
+pub room : (n taken part : ℕ) → 0 < n → n * taken + 128 ≤ n * 128 → n * part ≤ 128 → (taken + part) ≤ 128
+room n taken part c h k =
     ⊎_elim (λ (z : 128 < taken + part). absurd (let d : n * 129 ≤ n * (taken + part) = mul-le-mul_left n (let e : 129 ≤ taken + part = omega arith in e) in let e = mul-add n taken part in omega arith)) (λ z. z) (cases_lt 128 (taken + part))
 
 pub taken_more : (n i taken part : ℕ) → n * taken ≤ 128 * i → n * part ≤ 128 → n * (taken + part) ≤ 128 * (i + 1)

@@ -81,7 +81,7 @@ fn look_in<S: Segment<N>, const N: usize>(
 }
 
 // The parts of the segments up to the one in which the text ends.
-#[tactic(auto, using(crate::proofs::Rows::read_ends, crate::proofs::Rows::room))]
+#[tactic(auto, using(crate::proofs::Rows::read_ends))]
 fn joined<S: Segment<N>, const N: usize>(segments: &[Option<S>]) -> Option<ArrayVec<u8, 128>>
     requires { length segments.now ≡ N }
     ensures { read_from S.segments (held_in S.meant segments.now) N 0 ≡ option_map (λ t. t.items) result }
@@ -89,8 +89,7 @@ fn joined<S: Segment<N>, const N: usize>(segments: &[Option<S>]) -> Option<Array
     let mut text = ArrayVec::new();
     for segment in segments {
         let segment = segment.as_ref()?;
-        text.try_extend_from_slice(segment.part()).unwrap();
-        if segment.ends() {
+        if segment.add_to(&mut text) {
             return Some(text);
         }
     }

@@ -1,7 +1,8 @@
-ghost use Rattle.std.specs.Prelude.{◌≡◌, ℕ, ◌*◌, ◌<◌, ◌≤◌, cond, [], length, Some, None};
+ghost use Rattle.std.specs.Prelude.{◌≡◌, ℕ, ◌+◌, ◌*◌, ◌<◌, ◌≤◌, ◌++◌, cond, [], length, Some, None};
 ghost use Rattle.taking.specs.Segments.{Segments};
 
 use crate::look::Look;
+use arrayvec::ArrayVec;
 
 // A carrier's segment of a text: there are N, with numbers from 0 on.
 pub trait Segment<const N: usize>: Copy {
@@ -35,6 +36,18 @@ pub trait Segment<const N: usize>: Copy {
     fn part(&self) -> &[u8]
         ensures value { result.now ≡ segments.bytes (meant self.now) }
         ensures fits { N * length result.now ≤ 128 };
+
+    // Puts its part behind a text that has room for it, and tells whether the text ends in it. (Together, so that a carrier can read a segment once for both.)
+    #[tactic(auto, using(crate::proofs::Rows::room))]
+    fn add_to(&self, text: &mut ArrayVec<u8, 128>) -> bool
+        requires { N * length text.old.items + 128 ≤ N * 128 }
+        ensures text { text.new.items ≡ text.old.items ++ segments.bytes (meant self.now) }
+        ensures fits { N * length (segments.bytes (meant self.now)) ≤ 128 }
+        ensures ends { result ≡ segments.ends (meant self.now) }
+    {
+        text.try_extend_from_slice(self.part()).unwrap();
+        self.ends()
+    }
 
     ghost counts: { segments.count ≡ N };
 
