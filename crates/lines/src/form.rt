@@ -25,6 +25,7 @@ impl Form {
     }
 }
 
+// Digits as texts: to format each byte as a number costs two to three times as much.
 const DIGITS: [&str; 16] = [
     "0", "1", "2", "3", "4", "5", "6", "7", "8", "9", "A", "B", "C", "D", "E", "F",
 ];
