@@ -1,4 +1,5 @@
-ghost use Rattle.std.specs.Prelude.{◌≡◌, Some};
+ghost use Rattle.std.specs.Prelude.{◌≡◌, ◌<◌, true, [], ◌∷◌, Some};
+ghost use Rattle.std.specs.Fmt.{digit_glyph};
 ghost use Rattle.lines.specs.Form.{gap, line_text};
 
 use std::fmt;
@@ -24,6 +25,19 @@ impl Form {
     }
 }
 
+// Digits as texts: to format each byte as a number costs two to three times as much.
+const DIGITS: [&str; 16] = [
+    "0", "1", "2", "3", "4", "5", "6", "7", "8", "9", "A", "B", "C", "D", "E", "F",
+];
+
+// The digit of half a byte.
+fn digit(half: u8) -> &'static str
+    requires { half < 16 }
+    ensures { result.now ≡ digit_glyph true half ∷ [] }
+{
+    DIGITS[usize::from(half)]
+}
+
 // A frame that prints as a line of hexadecimal digits.
 #[derive(Clone, Copy, Debug)]
 pub struct Line<'a> {
@@ -36,8 +50,9 @@ impl fmt::Display for Line<'_> {
 
     fn fmt<W: fmt::Write>(&self, f: &mut fmt::Formatter<W>) -> fmt::Result {
         for (at, &byte) in self.frame.iter().enumerate() {
-            let gap = self.form.gap(at);
-            write!(f, "{gap}{byte:02X}")?;
+            f.write_str(self.form.gap(at))?;
+            f.write_str(digit(byte / 16))?;
+            f.write_str(digit(byte % 16))?;
         }
         Ok(())
     }

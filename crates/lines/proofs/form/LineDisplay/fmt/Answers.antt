@@ -1,7 +1,6 @@
-use Rattle.std.proofs.Common.{◌≡◌, ◌^◌, ◌-◌, ◌<◌, true, false, [], ◌++◌, ◌∙◌, ap, rules, get_or, take}
-use Rattle.std.specs.Fmt.{HasWritten, padded_integral, format_spec, digits}
+use Rattle.std.proofs.Common.{◌≡◌, ◌++◌, ◌∙◌, ap, rules, get_or, take}
+use Rattle.std.specs.Fmt.{HasWritten}
 use Rattle.std.proofs.Output.{has_written_append, has_written_of_eq}
-use Rattle.std.proofs.lemmas.Fmt.{hex_byte}
 use Rattle.lines.specs.Form.{gap, hex, line_text}
 use Rattle.lines.proofs.Bytes.{line_more}
 use Rattle.lines.proofs.form.LineDisplay.fmt.Goals as goal
@@ -11,10 +10,10 @@ loop-at-preserved g c = λ p.
     let form = c.args.self.now.form in
     let frame = c.args.self.now.frame.now in
     let at = c.loop-at.at in
-    let byte = get_or frame at 0 in
-    let fits : byte < 256 = search rules in
-    let text = padded_integral (format_spec 32 0 4 2 (2 ^ 64 - 1)) false [] (digits 16 true byte) in
-    let written : HasWritten g.W.Write.write_str_gives c.loop-at.f (c.gap-gap.result.now ++ text) c.write.new.self = search rules in
-    let is : c.gap-gap.result.now ++ text ≡ gap form at ++ hex byte = ap (λ x. x ++ text) c.gap-gap.ensures ∙ ap (λ x. gap form at ++ x) (hex_byte true byte fits) in
+    let gives = g.W.Write.write_str_gives in
+    let space : HasWritten gives c.loop-at.f c.gap.result.now c.write_str.new.self = search rules in
+    let high : HasWritten gives c.write_str.new.self c.digit.result.now c.write_str-in-loop-at.new.self = search rules in
+    let low : HasWritten gives c.write_str-in-loop-at.new.self c.digit-in-loop-at.result.now c.write_str-in-loop-at-2.new.self = search rules in
+    let is : c.gap.result.now ++ (c.digit.result.now ++ c.digit-in-loop-at.result.now) ≡ gap form at ++ hex (get_or frame at 0) = search rules in
     has_written_of_eq _ _ _ _ _ (ap (λ x. line_text form (take at frame) ++ x) is ∙ line_more form frame at c.loop-at-test.true)
-    (has_written_append _ _ _ _ _ _ (c.loop-at.invariant p) written)
+    (has_written_append _ _ _ _ _ _ (c.loop-at.invariant p) (has_written_append _ _ _ _ _ _ space (has_written_append _ _ _ _ _ _ high low)))
