@@ -27,11 +27,8 @@ fn trim_front(s: &[u8]) -> &[u8]
 fn trim_end(s: &[u8]) -> &[u8]
     ensures { result.now ≡ trim_end s.now }
 {
-    let mut front = s;
-    while let [shorter @ .., b' '] = front {
-        front = shorter;
-    }
-    front
+    let spaces = s.iter().rev().take_while(|b| **b == b' ').count();
+    &s[..s.len() - spaces]
 }
 
 // Spaces only: trim_ascii drops tabs too.
