@@ -52,7 +52,7 @@ impl<T: Copy + Default + Drop, const CAP: usize> From<ArrayVec<T, CAP>> for Shor
 
     fn from(entries: ArrayVec<T, CAP>) -> Self {
         let len = entries.len();
-        let mut places: [T; CAP] = Default::default();
+        let mut places = [T::default(); CAP];
         places[..len].copy_from_slice(entries.as_slice());
         ShortList { places, len }
     }
