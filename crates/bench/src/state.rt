@@ -146,7 +146,7 @@ impl Console for Bench {
 
     ghost state = { λ b. held b.label };
 
-    ghost replies = { Replies };
+    ghost replies = { λ b r after. Replies (held b.label) r (held after.label) };
 
     fn obey_words(&mut self, heap: Global, words: &[&str]) -> Result<Reply, Fault> {
         let command = Command::parse(heap, words)?;

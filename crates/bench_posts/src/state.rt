@@ -51,7 +51,7 @@ impl Console for Bench {
 
     ghost state = { bench_of };
 
-    ghost replies = { Replies };
+    ghost replies = { λ b r after. Replies (bench_of b) r (bench_of after) };
 
     // (As in the bench below, over the commands of this one.)
     fn obey_words(&mut self, heap: Global, words: &[&str]) -> Result<Reply, Fault> {

@@ -9,6 +9,8 @@ use Rattle.std.specs.Array.{AllOfLen}
 use Rattle.agreement.specs.Rules.{emptied, empty, by_rules}
 use Rattle.agreement.specs.Shown.{Shown}
 use Rattle.label.specs.Label.{Label}
+use Rattle.display.specs.declared.table.ClassTable.{ClassTable}
+use Rattle.display.specs.Held.{toggle_of, table_of}
 use Rattle.arrayvec.specs.declared.array_vec.ArrayVec.{ArrayVec}
 
 outside_item : (k : ℕ) → (k < 1) ⊎ (12 ≤ k) → item_class k ≡ false
@@ -42,6 +44,10 @@ row_cleared xs ys k n m h = items_cleared (λ v. v.items) _ xs ys k n m h
 -- a new table holds nothing
 pub new_row : (rows : List (ArrayVec ℕ 128 (Unit {0}))) (k : ℕ) → AllOfLen (λ v. v.items ≡ []) rows 64 → (get_or rows k (record { items = [] })).items ≡ []
 new_row rows k all = ⊎_elim (λ h. all.at k _ h) (λ h. ap (λ x. x.items) (get_or_past rows k _ (let n = all.long in omega arith))) (cases_lt k 64)
+
+-- a new table holds nothing
+pub new_table : (t : ClassTable) → AllOfLen (λ v. v.items ≡ []) t.rows 64 → t.last ≡ None → table_of t ≡ empty
+new_table t all e = λ i. record { row = λ k. new_row t.rows k all i; toggle = toggle_of (e i) }
 
 -- a new display
 pub new_shown : {S : Type 0} (state fresh : S) (rows : List (ArrayVec ℕ 128 (Unit {0}))) (toggle : Option Bool) → state ≡ fresh → AllOfLen (λ v. v.items ≡ []) rows 64 → toggle ≡ None

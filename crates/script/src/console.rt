@@ -1,4 +1,4 @@
-ghost use Rattle.std.specs.Prelude.{◌≡◌, ◌↔◌, IfOk, IfSome, IsNone, IsTrue, OnErr, string_bytes};
+ghost use Rattle.std.specs.Prelude.{⊤, ◌≡◌, ◌↔◌, IfOk, IfSome, IsNone, IsTrue, OnErr, string_bytes};
 ghost use Rattle.script.specs.Asking.{without_return, AsksNothing};
 ghost use Rattle.script.specs.Answering.{Answers};
 ghost use Rattle.script.specs.declared.reply.Reply.{Reply};
@@ -45,19 +45,19 @@ pub trait Console {
 
     ghost state: { Self → State };
 
-    // what it held, a reply that some command then gets, and what it holds after that
-    ghost replies: { State → Reply → State → Type 0 };
+    // the console, a reply that some command then gets, and the console after it; unsaid, it is any reply, and `answer` promises nothing of it
+    ghost replies: { Self → Reply → Self → Type 0 } = { λ _ _ _. ⊤ };
 
     // Carries out the command that these words say. A fault changes nothing.
     fn obey_words(&mut self, heap: Global, words: &[&str]) -> Result<Reply, Fault>
-        ensures reply { IfOk result (λ r. replies (state self.old) r (state self.new)) }
+        ensures reply { IfOk result (λ r. replies self.old r self.new) }
         ensures fault { OnErr result (state self.new ≡ state self.old) };
 
     // The answer to a line, both without their ends; no answer to a line that asks for nothing.
     final fn answer(&mut self, heap: Global, line: &[u8]) -> Result<Option<String>, AllocError>
         ensures asked { IfOk result (λ a. IsNone a ↔ AsksNothing (without_return line.now)) }
         ensures still { AsksNothing (without_return line.now) → Self.state self.new ≡ Self.state self.old }
-        ensures answered { IfOk result (λ a. IfSome a (λ s. Answers Self.replies (Self.state self.old) (string_bytes s) (Self.state self.new))) }
+        ensures answered { IfOk result (λ a. IfSome a (λ s. Answers Self.state Self.replies self.old (string_bytes s) self.new)) }
     {
         let line = without_return(line);
         if is_skipped(line) {
@@ -74,7 +74,7 @@ pub trait Console {
 
 // Carries out the command of a line.
 fn obey_line<C: Console>(console: &mut C, heap: Global, line: &[u8]) -> Result<Reply, Fault>
-    ensures reply { IfOk result (λ r. C.replies (C.state console.old) r (C.state console.new)) }
+    ensures reply { IfOk result (λ r. C.replies console.old r console.new) }
     ensures fault { OnErr result (C.state console.new ≡ C.state console.old) }
 {
     let words = words_of(heap, line)?;

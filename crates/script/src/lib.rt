@@ -4,4 +4,6 @@
 pub mod console;
 pub mod fault;
 pub mod reply;
+#[cfg(test)]
+mod tests;
 pub mod words;

@@ -96,7 +96,48 @@ fn joined<S: Segment<N>, const N: usize>(segments: &[Option<S>]) -> Option<Array
     S::ends_behind_all().then_some(text)
 }
 
-impl<S: Segment<N>, const N: usize> Pieces for Row<S, N> {
+// A row's own functions serve segments that cannot be copied too. (Pieces asks for a copy: its put is lent what it puts.)
+impl<S: Segment<N>, const N: usize> Row<S, N> {
+    pub fn new() -> Self
+        ensures { row_held S.meant result ≡ (in_segments S.segments).none }
+    {
+        Row {
+            segments: Default::default(),
+        }
+    }
+
+    pub fn clear(&mut self)
+        ensures { row_held S.meant self.new ≡ (in_segments S.segments).none }
+    {
+        *self = Self::new();
+    }
+
+    pub fn look(&self, piece: &Piece<S, N>) -> Look
+        ensures { result ≡ (in_segments S.segments).look (row_held S.meant self.now) (piece_meant S.meant piece.now) }
+    {
+        look_in(&self.segments, piece.number, &piece.segment)
+    }
+
+    // Holds a piece that is given.
+    pub fn keep(&mut self, piece: Piece<S, N>)
+        ensures { row_held S.meant self.new ≡ (in_segments S.segments).put (row_held S.meant self.old) (piece_meant S.meant piece) }
+    {
+        let Piece { number, segment } = piece;
+        self.segments[number] = Some(segment);
+    }
+
+    // The text, where it is complete.
+    pub fn text(&self) -> Option<ArrayVec<u8, 128>>
+        ensures { (in_segments S.segments).text (row_held S.meant self.now) ≡ option_map (λ t. t.items) result }
+    {
+        joined(&self.segments)
+    }
+}
+
+impl<S: Segment<N>, const N: usize> Pieces for Row<S, N>
+where
+    S: Copy,
+{
     type Piece = Piece<S, N>;
 
     ghost Held = { Held S.Meant };
@@ -112,23 +153,22 @@ impl<S: Segment<N>, const N: usize> Pieces for Row<S, N> {
     ghost empty = { nothing_read S.segments N S.counts S.some };
 
     fn new() -> Self {
-        Row {
-            segments: Default::default(),
-        }
+        Row::new()
     }
 
     fn clear(&mut self) {
-        *self = Self::new();
+        Row::clear(self);
     }
 
     fn look(&self, piece: &Piece<S, N>) -> Look {
-        look_in(&self.segments, piece.number, &piece.segment)
+        Row::look(self, piece)
     }
 
     fn put(&mut self, piece: &Piece<S, N>) {
         self.segments[piece.number] = Some(piece.segment);
     }
 
+    // (Not by the row's own, through which the text would be copied once more.)
     fn text(&self) -> Option<ArrayVec<u8, 128>> {
         joined(&self.segments)
     }

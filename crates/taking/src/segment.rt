@@ -5,7 +5,7 @@ use crate::look::Look;
 use arrayvec::ArrayVec;
 
 // A carrier's segment of a text: there are N, with numbers from 0 on.
-pub trait Segment<const N: usize>: Copy {
+pub trait Segment<const N: usize>: Drop {
     ghost Meant: { Type 0 };
 
     ghost meant: { Self → Meant };

@@ -54,6 +54,46 @@ impl Segment<3> for Letter {
     }
 }
 
+// A letter that cannot be copied.
+#[derive(Drop)]
+struct Sole(Letter);
+
+impl Segment<3> for Sole {
+    ghost Meant = { List ℕ };
+
+    ghost meant = { λ s. s.0.0 };
+
+    ghost segments = { ⟦<Letter as Segment<3>>⟧.segments };
+
+    ghost counts = { refl };
+
+    ghost some = { Prim.search rules };
+
+    fn past() -> Look {
+        Letter::past()
+    }
+
+    fn shuts() -> bool {
+        Letter::shuts()
+    }
+
+    fn ends_behind_all() -> bool {
+        Letter::ends_behind_all()
+    }
+
+    fn ends(&self) -> bool {
+        self.0.ends()
+    }
+
+    fn is_same(&self, other: &Sole) -> bool {
+        self.0.is_same(&other.0)
+    }
+
+    fn part(&self) -> &[u8] {
+        self.0.part()
+    }
+}
+
 fn piece_of(number: usize, byte: u8) -> Option<Piece<Letter, 3>> {
     let segment = Letter([byte]);
     if number < 3 {
@@ -100,6 +140,25 @@ fn behind_an_end(rt: HostRuntime) {
     assert!(rt; matches!(looks(&row, 2, b'c'), Some(Look::Behind)));
     put(&mut row, 0, b'a');
     assert!(rt; has_text(&row, b"a."));
+}
+
+// Pieces that cannot be copied are kept as they are given.
+#[test]
+fn kept_pieces(rt: HostRuntime) {
+    let mut row: Row<Sole, 3> = Row::new();
+    for (number, byte) in [(2, b'c'), (0, b'a'), (1, b'b')] {
+        assert!(rt; row.text().is_none());
+        let segment = Sole(Letter([byte]));
+        let piece = Piece { number, segment };
+        assert!(rt; matches!(row.look(&piece), Look::Fresh));
+        row.keep(piece);
+    }
+    assert!(rt; matches!(row.text(), Some(own) if own.as_slice() == b"abc".as_slice()));
+    let segment = Sole(Letter([b'a']));
+    let again = Piece { number: 0, segment };
+    assert!(rt; matches!(row.look(&again), Look::Equal));
+    row.clear();
+    assert!(rt; matches!(row.look(&again), Look::Fresh));
 }
 
 // Pieces, tags that arrive and a label told are copied where they are used twice.
